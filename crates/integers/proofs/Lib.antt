@@ -1,0 +1,13 @@
+-- A proof kit for signed integers.
+--     Linear       `simp ints (omega arith)`: linear facts and identities of rings, over the integers
+--     Order        the order is total and decided; products and the order
+--     Floor        division rounded down, with its remainder, and rounded up
+--     Divisors     gcd, lcm, Bezout's equation, the periods of a function
+--     Machine      `simp plain`: what a need says of signed integers, in plain terms
+--     Divide       the machine's division and remainder, rounded down
+pub mod Linear
+pub mod Order
+pub mod Floor
+pub mod Divisors
+pub mod Machine
+pub mod Divide
