@@ -1,0 +1,71 @@
+-- Questions to a row that was handed in (document 01, "Questions to a row"), as definitions that compute. The order of refusals:
+-- "13 for each row in argument order, then 14, 18, 15, 16, 17".
+use mathlib.Core.Option.{Option, none, some}
+use mathlib.Core.Bool.{Bool, cond}
+use mathlib.Core.List.{List}
+use Prim.Native.Nat.{ℕ}
+use lib.Dec.{leb}
+use lib.IntN.{ℤ, pos, _+ℤ_, _-ℤ_}
+use lib.ListN.{length}
+use Rattle.integers.specs.Parts.{up}
+use Rattle.calendar.specs.Meaning.{Row, meant}
+use Rattle.calendar.specs.Reply.{Reply, require}
+use Rattle.calendar.specs.Reply.Reply.{refused, answer}
+use Rattle.calendar.specs.Lists.{any, all, first, last, is}
+use Rattle.calendar.specs.Granules.{has, granule, inside, within}
+use Rattle.calendar.specs.Checks.{inRange, labelsOf, sound}
+
+-- a row as a caller hands it in, with any numbers: one below zero is as good as 0, which rule 13 refuses
+abbrev pub given : ℤ → ℤ → List ℤ → Row
+given period distance cells = record { period = up period; distance = up distance; cells = cells }
+
+-- ---- up
+
+-- "Up from an instant: its label or 'none'."
+unfoldable pub upFromInstant : Row → ℤ → Reply (Option ℤ)
+unfolding meant sound
+upFromInstant r t = require 13 (sound r) (require 14 (inRange t) (answer (meant r t)))
+
+-- "the h label whose slot contains all of it, or 'none'", of the granule z of g
+unfoldable pub holder : Row → Row → ℤ → Option ℤ
+unfolding meant granule inside
+holder g h z = elim (meant h (first (granule g z))) [ none ↦ none | some i ↦ cond (inside g z h i) (some i) none ]
+
+unfoldable pub upFromGranule : Row → Row → ℤ → Reply (Option ℤ)
+unfolding sound has holder
+upFromGranule g h z =
+    require 13 (sound g)
+    (require 13 (sound h)
+    (require 14 (inRange z)
+    (require 15 (has g z)
+    (answer (holder g h z)))))
+
+-- ---- down
+
+-- the parts make up the whole granule z of h: each of its instants is in one of the granules of g inside it
+unfoldable pub madeUp : Row → Row → ℤ → Bool
+unfolding meant granule within
+madeUp h g z = all (λ u. any (λ k. is k (meant g u)) (within g h z)) (granule h z)
+
+-- "the labels of g's slots inside it, rising, in a lent list", which holds so many
+unfoldable pub down : Row → Row → ℤ → ℕ → Reply (List ℤ)
+unfolding sound has madeUp within
+down h g z room =
+    require 13 (sound h)
+    (require 13 (sound g)
+    (require 14 (inRange z)
+    (require 15 (has h z)
+    (require 16 (madeUp h g z)
+    (require 17 (leb (length (within g h z)) room)
+    (answer (within g h z)))))))
+
+-- ---- figures and lateness
+
+-- "labelled instants per period"
+abbrev pub labelledInstants : Row → ℕ
+labelledInstants r = length (labelsOf (r .cells))
+
+-- "The slot's length is last instant − first instant + 1."
+unfoldable pub extent : Row → ℤ → ℕ
+unfolding granule
+extent r z = up (last (granule r z) -ℤ first (granule r z) +ℤ pos 1)

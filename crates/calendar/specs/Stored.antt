@@ -1,0 +1,33 @@
+-- What a conversion leaves in the lists that it was lent (document 01, "How much room an entry takes" and "When the desk says no").
+use mathlib.Core.List.{List, [], _∷_, _++_}
+use Prim.Native.Nat.{ℕ, _+_, _-_}
+use lib.IntN.{ℤ}
+use lib.ListN.{length, replicate}
+use Rattle.calendar.specs.Meaning.{Row, empty}
+use Rattle.calendar.specs.Table.{Outcome}
+use Rattle.calendar.specs.Table.Outcome.{refusedAt, rows}
+
+-- "Rows stand in it one behind the other from cell 0"
+abbrev pub joined : List Row → List ℤ
+joined [] = []
+joined (r ∷ l) = r .cells ++ joined l
+
+-- "one record for each entry: start, period, distance", three numbers a heading; the first row starts at `start`
+abbrev pub headingsFrom : ℕ → List Row → List ℕ
+headingsFrom start [] = []
+headingsFrom start (r ∷ l) = start ∷ r .period ∷ r .distance ∷ headingsFrom (start + r .period) l
+
+-- l with d behind it, n in all
+abbrev pub filled : {A : Type 0} → ℕ → A → List A → List A
+filled n d l = l ++ replicate (n - length l) d
+
+-- a pool of n cells: "cells behind the last row are '.'"; after a refusal every cell is
+unfoldable pub poolAfter : ℕ → Outcome → List ℤ
+poolAfter n (refusedAt m k) = filled n empty []
+poolAfter n (rows l) = filled n empty (joined l)
+
+-- a list of n heading numbers: "Headings beyond the last entry are zero", "one or two left over are no heading and end as
+-- zero"; after a refusal all are zero
+unfoldable pub headingsAfter : ℕ → Outcome → List ℕ
+headingsAfter n (refusedAt m k) = filled n 0 []
+headingsAfter n (rows l) = filled n 0 (headingsFrom 0 l)
