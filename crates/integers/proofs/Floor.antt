@@ -86,6 +86,11 @@ module _ (P : ℕ) (above : 0 < P) where
         λ h. g .1 (h ∴ simp ints (omega arith)) ∴ simp ints (omega arith),
       )
 
+  -- the quotient rounded up is the q of t = P * q - r, for an r below P
+  pub ceil-unique : (t q : ℤ) (r : ℕ) → t ≡ pos P *ℤ q -ℤ pos r → r < P → ceilDiv t P ≡ q
+  unfolding ceilDiv
+  ceil-unique t q r e l = ap negℤ (floor-unique (negℤ t) (negℤ q) r (e ∴ simp ints (omega arith)) l .0) ∙ negℤ-negℤ q
+
 -- ---- divisions in a row
 pub floorDiv-floorDiv : (t : ℤ) (m n : ℕ) → floorDiv (floorDiv t m) n ≡ floorDiv t (m * n)
 unfolding floorDiv
