@@ -5,9 +5,11 @@
 --     Divisors     gcd, lcm, Bezout's equation, the periods of a function
 --     Machine      `simp plain`: what a need says of signed integers, in plain terms
 --     Divide       the machine's division and remainder, rounded down
+--     Cap          a number that is at most a cap: its two cases
 pub mod Linear
 pub mod Order
 pub mod Floor
 pub mod Divisors
 pub mod Machine
 pub mod Divide
+pub mod Cap
