@@ -1,4 +1,4 @@
--- The order of the integers: that it is total and decided, and what a product does to it. Whatever is linear is left to `simp ints (omega arith)` (`Read`).
+-- The order of the integers: it is total and decided; products and the order. What is linear is left to `simp ints (omega arith)` (`Linear`).
 -- Assumes nothing.
 use mathlib.Core.Path.{_≡_, refl}
 use mathlib.Core.Logic.{_⊎_, inl, inr}
