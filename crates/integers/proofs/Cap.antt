@@ -7,7 +7,6 @@ use native.Mathlib.Omega.{arith}
 use lib.Dec.{leb}
 use borrow.Author.Tests.{leb-true, leb-false, le-leb, lt-leb}
 use Rattle.integers.specs.Capped.{cappedAt}
-use Rattle.integers.specs.declared.Capped.{Capped}
 use Rattle.integers.specs.declared.Capped.the-variants.{Within, TooLong}
 
 pub capped-within : {cap n : ℕ} → n ≤ cap → cappedAt cap n ≡ Within n

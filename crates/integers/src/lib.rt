@@ -1,4 +1,5 @@
-// Integers that round down and up: division and remainder by a positive number. The greatest common divisor; products and least common multiples up to a cap.
+// Division and remainder by a positive number, rounded down and up; the greatest common divisor; products and least
+// common multiples up to a cap.
 
 ghost use mathlib.Core.Path.{_≡_};
 ghost use Prim.Native.Nat.{_*_};
@@ -36,6 +37,7 @@ pub fn ceil_div(t: i64, p: i64) -> i64
     if 0 < t % p { q + 1 } else { q }
 }
 
+// The greatest common divisor, by Euclid's way.
 pub fn gcd(a: u64, b: u64) -> u64
     ensures { λ r. ⌜ r ≡ G.gcd a b ⌝ }
 {
