@@ -1,7 +1,7 @@
--- The machine's signed division and remainder, which round toward zero, by a positive number: a correction by one divisor rounds them down.
+-- The machine's signed division and remainder, which round toward zero, by a positive number: a correction by one divisor rounds them down, or up.
 -- Assumes nothing.
 use mathlib.Core.Path.{_≡_, _∙_, ap, subst}
-use Prim.Native.Nat.{ℕ, suc, _<_}
+use Prim.Native.Nat.{ℕ, zero, suc, _<_}
 use native.Mathlib.Nat.{div-add-mod, mod-lt, div-le-self}
 use native.Mathlib.Omega.{arith}
 use lib.IntN.{ℤ, pos, negsuc, negℤ, _+ℤ_, _-ℤ_, _*ℤ_}
@@ -12,8 +12,8 @@ use Rattle.integers.proofs.Linear.{ints, _∴_}
 use Rattle.integers.specs.Parts.{up}
 use Rattle.integers.proofs.Machine.{plain, quot-fits}
 use Rattle.integers.proofs.Order.{pos-up}
-use Rattle.integers.specs.Floor.{floorDiv, floorMod}
-use Rattle.integers.proofs.Floor.{floor-unique}
+use Rattle.integers.specs.Floor.{floorDiv, floorMod, ceilDiv}
+use Rattle.integers.proofs.Floor.{floor-unique, ceil-unique}
 
 quot-rem : (t : ℤ) (n : ℕ) → t ≡ pos n *ℤ quotZ t (pos n) +ℤ remZ t (pos n)
 quot-rem (pos a) n = simp ints (omega (arith, div-add-mod a n))
@@ -58,3 +58,31 @@ floor-less t (pos n) h k =
 
 pub less-fits : {w : Width} {t p : ℤ} → SFits w t → pos 0 <ℤ p → remZ t p <ℤ pos 0 → SFits w (quotZ t p -ℤ pos 1)
 less-fits {w} {t} {p} f h k = subst (SFits w) (floor-less t p h k .0) (floor-fits (up p) f)
+
+-- ---- rounded up
+pub ceil-fits : {w : Width} {t : ℤ} (P : ℕ) → SFits w t → SFits w (ceilDiv t P)
+unfolding ceilDiv floorDiv
+ceil-fits {t = pos zero} P f = simp ints (omega (arith, simp ints at f, div-le-self 0 P))
+ceil-fits {t = pos (suc a)} P f = simp ints (omega (arith, simp ints at f, div-le-self a P))
+ceil-fits {t = negsuc a} P f = simp ints (omega (arith, simp ints at f, div-le-self (suc a) P))
+
+-- a remainder of at most zero leaves the quotient rounded up
+pub ceil-same : (t p : ℤ) → pos 0 <ℤ p → remZ t p ≤ℤ pos 0 → ceilDiv t (up p) ≡ quotZ t p
+ceil-same t (negsuc n) h k = absurd (h .lt)
+ceil-same t (pos n) h k =
+    let above : 0 < n = omega (arith, simp ints at h) in
+    let small = rem-small t n above in
+    let r : pos 0 ≤ℤ (negℤ (remZ t (pos n))) = k ∴ simp ints (omega arith) in
+    ceil-unique n above t (quotZ t (pos n)) (up (negℤ (remZ t (pos n)))) (quot-rem t n ∴ pos-up r ∴ simp ints (omega arith)) (omega (arith, simp ints at small, simp ints at (pos-up r)))
+
+-- a positive one wants one more
+pub ceil-more : (t p : ℤ) → pos 0 <ℤ p → pos 0 <ℤ remZ t p → ceilDiv t (up p) ≡ quotZ t p +ℤ pos 1
+ceil-more t (negsuc n) h k = absurd (h .lt)
+ceil-more t (pos n) h k =
+    let above : 0 < n = omega (arith, simp ints at h) in
+    let small = rem-small t n above in
+    let r : pos 0 ≤ℤ (pos n -ℤ remZ t (pos n)) = small ∴ simp ints (omega arith) in
+    ceil-unique n above t (quotZ t (pos n) +ℤ pos 1) (up (pos n -ℤ remZ t (pos n))) (quot-rem t n ∴ pos-up r ∴ simp ints (omega arith)) (omega (arith, simp ints at k, simp ints at (pos-up r)))
+
+pub more-fits : {w : Width} {t p : ℤ} → SFits w t → pos 0 <ℤ p → pos 0 <ℤ remZ t p → SFits w (quotZ t p +ℤ pos 1)
+more-fits {w} {t} {p} f h k = subst (SFits w) (ceil-more t p h k) (ceil-fits (up p) f)

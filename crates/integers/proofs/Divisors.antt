@@ -1,9 +1,9 @@
--- The greatest common divisor and the least common multiple of two naturals, Bezout's equation, and the periods of a function on the integers.
+-- The greatest common divisor and the least common multiple of two naturals, and Bezout's equation.
 -- `_∣_` and its laws are the native library's (`native.Mathlib.Nat`: dvd-add, dvd-mod-iff, dvd-antisymm, mul-div-cancel').
 -- Assumes nothing.
 use mathlib.Core.Path.{_≡_, refl, sym, _∙_, ap, subst}
 use Prim.Native.Nat.{ℕ, zero, suc, _*_, _/_, _%_, _<_, _≤_, _∣_}
-use native.Mathlib.Nat.{div-add-mod, mod-lt, dvd-zero, dvd-refl, dvd-mod-iff, dvd-mul-right, dvd-mul-left, dvd-antisymm, mul-div-cancel', pos-of-dvd-of-pos, le-of-dvd}
+use native.Mathlib.Nat.{div-add-mod, mod-lt, dvd-zero, dvd-refl, dvd-mod-iff, dvd-mul-right, dvd-mul-left, dvd-antisymm, mul-div-cancel', pos-of-dvd-of-pos, le-of-dvd, mul-pos, le-div-iff-mul-le, mul-dvd-mul-left, dvd-of-mul-dvd-mul-left, eq-one-of-dvd-one}
 use native.Mathlib.Omega.{arith}
 use lib.IntN.{ℤ, pos, negsuc, _+ℤ_, _-ℤ_, _*ℤ_}
 use Rattle.integers.proofs.Linear.{ints, _∴_}
@@ -73,9 +73,8 @@ bezout = gcd-ind Bezout (λ a. record { x = pos 1; y = pos 0; sum = rw gcd-zero 
       sum = rw (gcd-step a b h) (z .sum ∴ ap (λ (k : ℕ). pos k *ℤ z .y) (div-add-mod a b) ∴ simp ints (omega arith));
     }
 
--- ---- the least common multiple
--- pos m is a multiple of pos d among the integers: d divides m
-dvd-of-int : (d m : ℕ) (z : ℤ) → pos m ≡ pos d *ℤ z → d ∣ m
+-- ---- divisibility, by an equation of integers
+pub dvd-of-int : (d m : ℕ) (z : ℤ) → pos m ≡ pos d *ℤ z → d ∣ m
 dvd-of-int d m (pos k) e = subst (λ (n : ℕ). d ∣ n) (sym m-is) (dvd-mul-right d k)
   where
     m-is : m ≡ d * k
@@ -85,12 +84,42 @@ dvd-of-int d m (negsuc k) e = subst (λ (n : ℕ). d ∣ n) (sym m-is) (dvd-zero
     m-is : m ≡ 0
     m-is = omega (arith, simp ints at e)
 
+-- a divisor of m * k that has no divisor in common with m divides k
+pub gauss : (d m k : ℕ) → gcd d m ≡ 1 → d ∣ m * k → d ∣ k
+gauss d m k coprime h =
+    let w = bezout d m in
+    let one : pos 1 ≡ pos d *ℤ w .x +ℤ pos m *ℤ w .y = ap pos (sym coprime) ∙ w .sum in
+    dvd-of-int d k (w .x *ℤ pos k +ℤ pos (m * k / d) *ℤ w .y)
+    (ap (λ (z : ℤ). z *ℤ pos k) one ∴ ap (λ (n : ℕ). pos n *ℤ w .y) (mul-div-cancel' d h) ∴ simp ints (omega arith))
+
+-- two numbers divided by their greatest common divisor
+pub div-gcd-coprime : (a b : ℕ) → 0 < a → gcd (a / gcd a b) (b / gcd a b) ≡ 1
+div-gcd-coprime a b h =
+    let g = gcd a b in
+    let d = gcd (a / g) (b / g) in
+    let p : g * d ∣ a = subst (λ (n : ℕ). g * d ∣ n) (mul-div-cancel' g (gcd-dvd a b .0)) (mul-dvd-mul-left d g (gcd-dvd (a / g) (b / g) .0)) in
+    let q : g * d ∣ b = subst (λ (n : ℕ). g * d ∣ n) (mul-div-cancel' g (gcd-dvd a b .1)) (mul-dvd-mul-left d g (gcd-dvd (a / g) (b / g) .1)) in
+    let r : g * d ∣ g * 1 = subst (λ (n : ℕ). g * d ∣ n) (omega arith) (gcd-greatest (g * d) a b p q) in
+    eq-one-of-dvd-one (dvd-of-mul-dvd-mul-left d (gcd-pos a b h) r)
+
+-- ---- the least common multiple
+lcm-right : (a b : ℕ) → lcm a b ≡ a * (b / gcd a b)
+unfolding lcm
+lcm-right a b =
+    let g = gcd a b in
+    omega (arith, ap (λ (k : ℕ). a / g * k) (mul-div-cancel' g (gcd-dvd a b .1)), ap (λ (k : ℕ). k * (b / g)) (mul-div-cancel' g (gcd-dvd a b .0)))
+
 pub lcm-dvd : (a b : ℕ) → (a ∣ lcm a b) × (b ∣ lcm a b)
 unfolding lcm
-lcm-dvd a b =
-    let g = gcd a b in
-    let e : a / g * b ≡ a * (b / g) = omega (arith, ap (λ (k : ℕ). a / g * k) (mul-div-cancel' g (gcd-dvd a b .1)), ap (λ (k : ℕ). k * (b / g)) (mul-div-cancel' g (gcd-dvd a b .0))) in
-    (subst (λ (n : ℕ). a ∣ n) (sym e) (dvd-mul-right a (b / g)), dvd-mul-left b (a / g))
+lcm-dvd a b = (rw (lcm-right a b) (dvd-mul-right a (b / gcd a b)), dvd-mul-left b (a / gcd a b))
+
+pub lcm-comm : (a b : ℕ) → lcm a b ≡ lcm b a
+unfolding lcm
+lcm-comm a b = lcm-right a b ∙ ap (λ (g : ℕ). a * (b / g)) (gcd-comm a b) ∙ omega arith
+
+pub lcm-pos : (a b : ℕ) → 0 < a → 0 < b → 0 < lcm a b
+unfolding lcm
+lcm-pos a b h k = mul-pos (le-div-iff-mul-le (gcd-pos a b h) .1 (omega (arith, le-of-dvd h (gcd-dvd a b .0)))) k
 
 -- the two steps of `lcm-least`, each within the 64 products that `omega` takes
 bezout-times : (g a b k l m : ℕ) (x y : ℤ) → pos g ≡ pos a *ℤ x +ℤ pos b *ℤ y → b * l ≡ m → a * k ≡ m → pos g *ℤ pos m ≡ pos (a * b * l) *ℤ x +ℤ pos (a * b * k) *ℤ y
@@ -121,34 +150,3 @@ lcm-least a b m h p q = dvd-of-int (a / g * b) m z (mul-cancel g (gcd-pos a b h)
     eq =
         bezout-times g a b (m / a) (m / b) m (w .x) (w .y) (w .sum) (mul-div-cancel' b q) (mul-div-cancel' a p)
         ∙ sym (factor-out g a b (a / g) (m / a) (m / b) (w .x) (w .y) (mul-div-cancel' g (gcd-dvd a b .0)))
-
--- ---- periods of a function on the integers
-module _ {X : Type 0} (f : ℤ → X) where
-  unfoldable pub Period : ℕ → Type 0
-  Period P = (t : ℤ) → f (t +ℤ pos P) ≡ f t
-
-  pub period-zero : Period 0
-  unfolding Period
-  period-zero t = ap f (simp ints (omega arith))
-
-  forward : (P : ℕ) → Period P → (n : ℕ) (t : ℤ) → f (t +ℤ pos P *ℤ pos n) ≡ f t
-  unfolding Period
-  forward P h zero t = ap f (simp ints (omega arith))
-  forward P h (suc n) t = ap f (simp ints (omega arith)) ∙ h (t +ℤ pos P *ℤ pos n) ∙ forward P h n t
-
-  -- any number of periods, forward or back
-  pub period-many : (P : ℕ) → Period P → (k t : ℤ) → f (t +ℤ pos P *ℤ k) ≡ f t
-  period-many P h (pos n) t = forward P h n t
-  period-many P h (negsuc n) t = sym (forward P h (suc n) (t +ℤ pos P *ℤ negsuc n)) ∙ ap f (simp ints (omega arith))
-
-  pub period-gcd : (P Q : ℕ) → Period P → Period Q → Period (gcd P Q)
-  unfolding Period
-  period-gcd P Q h k t =
-      let w = bezout P Q in
-      ap (λ (g : ℤ). f (t +ℤ g)) (w .sum) ∙ ap f (simp ints (omega arith)) ∙ period-many Q k (w .y) (t +ℤ pos P *ℤ w .x) ∙ period-many P h (w .x) t
-
-  -- the least period divides every other
-  pub period-least : (P : ℕ) → 0 < P → Period P → ((Q : ℕ) → 0 < Q → Period Q → P ≤ Q) → (Q : ℕ) → Period Q → P ∣ Q
-  period-least P above h least Q k =
-      let g : gcd P Q ≡ P = omega (arith, least (gcd P Q) (gcd-pos P Q above) (period-gcd P Q h k), le-of-dvd above (gcd-dvd P Q .0)) in
-      subst (λ (n : ℕ). n ∣ Q) g (gcd-dvd P Q .1)

@@ -2,15 +2,16 @@
 --     floorDiv t P, floorMod t P        t is P * floorDiv t P + floorMod t P
 --     ceilDiv t P                       the least k with t ≤ P * k
 -- Assumes nothing.
-use mathlib.Core.Path.{_≡_, sym, _∙_, ap}
+use mathlib.Core.Path.{_≡_, refl, sym, _∙_, ap}
 use mathlib.Core.Logic.{_⊎_, inl, inr, _↔_}
-use Prim.Native.Nat.{ℕ, suc, _+_, _*_, _-_, _/_, _%_, _<_}
-use native.Mathlib.Nat.{div-add-mod, mod-lt, div-div-eq-div-mul, mul-le-mul-left, mul-pos}
+use Prim.Native.Nat.{ℕ, _+_, _*_, _-_, _/_, _%_, _<_}
+use native.Mathlib.Nat.{div-add-mod, mod-lt, div-div-eq-div-mul, div-eq-of-lt, mod-eq-of-lt, mul-le-mul-left, mul-pos}
 use native.Mathlib.Omega.{arith}
 use lib.IntN.{ℤ, pos, negsuc, negℤ, negℤ-negℤ, _+ℤ_, _-ℤ_, _*ℤ_}
 use lib.Signed.{_≤ℤ_, _<ℤ_}
 use Rattle.integers.proofs.Linear.{ints, _∴_}
 use Rattle.integers.proofs.Order.{le-or-lt, mul-mono, ≤ℤ-antisym}
+use Rattle.integers.specs.Parts.{up}
 use Rattle.integers.specs.Floor.{floorDiv, floorMod, ceilDiv}
 
 module _ (P : ℕ) (above : 0 < P) where
@@ -85,6 +86,44 @@ module _ (P : ℕ) (above : 0 < P) where
         λ h. g .0 (h ∴ simp ints (omega arith)) ∴ simp ints (omega arith),
         λ h. g .1 (h ∴ simp ints (omega arith)) ∴ simp ints (omega arith),
       )
+
+  -- the quotient rounded up is the q of t = P * q - r, for an r below P
+  pub ceil-unique : (t q : ℤ) (r : ℕ) → t ≡ pos P *ℤ q -ℤ pos r → r < P → ceilDiv t P ≡ q
+  unfolding ceilDiv
+  ceil-unique t q r e l = ap negℤ (floor-unique (negℤ t) (negℤ q) r (e ∴ simp ints (omega arith)) l .0) ∙ negℤ-negℤ q
+
+  pub ceil-eq : (t : ℤ) → t ≡ pos P *ℤ ceilDiv t P -ℤ pos (floorMod (negℤ t) P)
+  unfolding ceilDiv
+  ceil-eq t = floor-eq (negℤ t) ∴ simp ints (omega arith)
+
+  pub ceilDiv-shift : (t k : ℤ) → ceilDiv (t +ℤ pos P *ℤ k) P ≡ ceilDiv t P +ℤ k
+  ceilDiv-shift t k =
+      ceil-unique (t +ℤ pos P *ℤ k) (ceilDiv t P +ℤ k) (floorMod (negℤ t) P) (ceil-eq t ∴ simp ints (omega arith)) (floor-lt (negℤ t))
+
+  pub ceilDiv-mul : (k : ℤ) → ceilDiv (pos P *ℤ k) P ≡ k
+  ceilDiv-mul k = ceil-unique (pos P *ℤ k) k 0 (simp ints (omega arith)) above
+
+  pub ceil-mono : {s t : ℤ} → s ≤ℤ t → ceilDiv s P ≤ℤ ceilDiv t P
+  ceil-mono {s} {t} h = ceil-le s (ceilDiv t P) .1 (h ∴ ceil-eq t ∴ simp ints (omega arith))
+
+pub ceilDiv-one : (t : ℤ) → ceilDiv t 1 ≡ t
+ceilDiv-one t = ceil-unique 1 (omega arith) t t 0 (simp ints (omega arith)) (omega arith)
+
+-- ---- of naturals, and below the divisor
+pub floorDiv-pos : (a P : ℕ) → floorDiv (pos a) P ≡ pos (a / P)
+unfolding floorDiv
+floorDiv-pos a P = refl
+
+pub floorMod-pos : (a P : ℕ) → floorMod (pos a) P ≡ a % P
+unfolding floorMod
+floorMod-pos a P = refl
+
+pub floorDiv-pos-lt : (P : ℕ) {t : ℤ} → pos 0 ≤ℤ t → t <ℤ pos P → (floorDiv t P ≡ pos 0) × (floorMod t P ≡ up t)
+unfolding floorDiv floorMod
+floorDiv-pos-lt P {t = pos a} h k =
+    let l : a < P = omega (arith, simp ints at k) in
+    (ap pos (div-eq-of-lt l), mod-eq-of-lt l)
+floorDiv-pos-lt P {t = negsuc a} h k = absurd (h .le)
 
 -- ---- divisions in a row
 pub floorDiv-floorDiv : (t : ℤ) (m n : ℕ) → floorDiv (floorDiv t m) n ≡ floorDiv t (m * n)

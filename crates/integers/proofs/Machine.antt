@@ -1,6 +1,6 @@
 -- What a need says of signed integers, in plain terms. A need speaks of `toZ w (ofZ w x)`, the number read back from the bits of x, and of a test's outcome, `ltZ x y ≡ true`.
 --     simp plain t, simp plain at h      x for `toZ w (ofZ w x)`, `pos n` for `toZ w n` of an unsigned n, and an order for an outcome
---     h ∴ simp (plain, ints) (omega arith)      the same, and then as `Read` says. An equation e of one's own goes before `ints`, `simp (plain, e, ints)`: after it, it comes too late
+--     h ∴ simp (plain, ints) (omega arith)      the same, and then as `Linear` says. An equation e of one's own goes before `ints`: `simp (plain, e, ints)`
 -- It asks that x fits, and that n is below the half, as `n < 2 ^ 63`. `simp` finds that among the variables in scope, so a proof says `let x = c .fits .x in` first; of a quotient, a remainder and a widened number it follows by the set's own lemmas.
 -- Those lemmas are `abbrev`: a set's member that is no equation and that a call does not use is taken for a definition to open.
 -- Assumes nothing.

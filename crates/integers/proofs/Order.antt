@@ -1,4 +1,4 @@
--- The order of the integers: that it is total and decided, and what a product does to it. Whatever is linear is left to `simp ints (omega arith)` (`Read`).
+-- The order of the integers: it is total and decided; products and the order. What is linear is left to `simp ints (omega arith)` (`Linear`).
 -- Assumes nothing.
 use mathlib.Core.Path.{_≡_, refl}
 use mathlib.Core.Logic.{_⊎_, inl, inr}
@@ -72,3 +72,6 @@ mul-cancel n {a} {b} p e = ≤ℤ-antisym (mul-le-cancel n p (e ∴ simp ints (o
 pub pos-up : {z : ℤ} → pos 0 ≤ℤ z → pos (up z) ≡ z
 pos-up {z = pos n} h = refl
 pos-up {z = negsuc n} h = absurd (h .le)
+
+pub up-pos : {z : ℤ} → pos 0 <ℤ z → 0 < up z
+up-pos {z} h = omega (arith, simp ints at h)

@@ -1,7 +1,9 @@
 -- `integers::floor_div` meets its contract: its two arms are the two cases of the remainder's sign.
 -- Assumes nothing.
 use mathlib.Core.Path.{sym}
-use Rattle.integers.proofs.Machine.{plain}
+use native.Mathlib.Omega.{arith}
+use Rattle.integers.proofs.Linear.{ints, _∴_}
+use Rattle.integers.proofs.Machine.{plain, quot-fits}
 use Rattle.integers.proofs.Divide.{div-needs, less-fits, floor-same, floor-less}
 use Rattle.integers.proofs.floor_div.Statement.{statement}
 use Rattle.integers.proofs.floor_div.Tie as tie
@@ -18,7 +20,7 @@ sub-result c =
     let t = s .fits .t in
     let p = s .fits .p in
     let h = s .pre in
-    simp plain (less-fits t h (simp plain at (c .if1 .taken)))
+    quot-fits t h ∴ less-fits t h (simp plain at (c .if1 .taken)) ∴ simp (plain, ints) (omega arith)
 
 returns : tie.Need-returns
 returns c =
@@ -26,9 +28,8 @@ returns c =
     let t = s .fits .t in
     let p = s .fits .p in
     let h = s .pre in
-    let below = simp plain at (c .if1 .taken) in
-    let l = less-fits t h below in
-    simp plain (sym (floor-less (s .args .t) (s .args .p) h below .0))
+    let fits = simp plain at (sub-result c) in
+    simp plain (sym (floor-less (s .args .t) (s .args .p) h (simp plain at (c .if1 .taken)) .0))
 
 returns-2 : tie.Need-returns-2
 returns-2 c =
