@@ -13,6 +13,7 @@
 --     Stored       the headings and the pool that a conversion leaves
 --     Questions    questions to a row that was handed in
 --     Worked       the slots worked by hand, as a list
+--     Refusals     the calendar type and the refusals of the code
 pub mod Meaning
 pub mod Operation
 pub mod Algebra
@@ -27,3 +28,4 @@ pub mod Table
 pub mod Stored
 pub mod Questions
 pub mod Worked
+pub mod Refusals
