@@ -2,6 +2,10 @@
 --     Worked       the slots worked by hand
 --     Altering     the example of altering
 --     Slips        the easy slips
+--     Examples     an example of each other kind
+--     Refused      an example of each refusal of a conversion, and their order
 pub mod Worked
 pub mod Altering
 pub mod Slips
+pub mod Examples
+pub mod Refused
