@@ -26,6 +26,10 @@ kinds =
     ∷ case
     (rowOf (pairs ++ entry 8 3 1 (negsuc 0) 1 (pos 0)) 4)
     (rowWith 14 7 (pos 0 ∷ empty ∷ empty ∷ empty ∷ empty ∷ empty ∷ empty ∷ pos 4 ∷ pos 4 ∷ empty ∷ empty ∷ empty ∷ empty ∷ pos 7 ∷ []))
+    -- select-down: the first pair inside each week, where the pair of 7 and 8 touches two
+    ∷ case
+    (rowOf (pairs ++ entry 6 3 1 (pos 1) 1 (pos 0)) 4)
+    (rowWith 14 7 (empty ∷ pos 1 ∷ pos 1 ∷ empty ∷ empty ∷ empty ∷ empty ∷ empty ∷ empty ∷ pos 5 ∷ pos 5 ∷ empty ∷ empty ∷ empty ∷ []))
     -- select-down from the end: of 7 days, two from the eighth last on, of which only the first is there
     ∷ case (rowOf (weeks ++ entry 6 0 1 (negsuc 7) 2 (pos 0)) 2) (rowWith 7 7 (empty ∷ pos 1 ∷ empty ∷ empty ∷ empty ∷ empty ∷ empty ∷ []))
     -- intersection: the odd business days

@@ -1,0 +1,1 @@
+// The laws of rows: theorems on what a row means. There is no code here.
