@@ -14,8 +14,8 @@ use Rattle.calendar.specs.Operation.Operation.{bottom, unary, binary}
 use Rattle.calendar.specs.Operation.Alignment.{free, partition, subcalendar, compatible}
 use Rattle.calendar.specs.Lists.{any, all, keep, from, first, equal, isSome, is, sameLabel, ifLabel}
 use Rattle.calendar.specs.Granules.{full}
-use Rattle.calendar.specs.Size.{spanOf, rise, coarse}
-use Rattle.calendar.specs.Compute.{firstFine, lastFine}
+use Rattle.calendar.specs.Size.{turn, spanOf, rise, coarse, size}
+use Rattle.calendar.specs.Compute.{firstFine, lastFine, result}
 
 -- ---- full operands (check 7)
 
@@ -50,10 +50,10 @@ agrees a b t u =
 -- the test passes at each t of one span and each u at most a span away. Where the labels rise alike, that decides it
 -- for all instants
 abbrev pub everywhere : Row → Row → (ℤ → ℤ → Bool) → Bool
-everywhere a b f = let s = spanOf a b in all (λ t. all (f t) (from (t -ℤ pos s) (suc (2 * s)))) (from (pos 0) s)
+everywhere a b f = let s = spanOf (turn a) (turn b) in all (λ t. all (f t) (from (t -ℤ pos s) (suc (2 * s)))) (from (pos 0) s)
 
 abbrev pub riseAlike : Row → Row → Bool
-riseAlike a b = eqb (rise a (spanOf a b)) (rise b (spanOf a b))
+riseAlike a b = let s = spanOf (turn a) (turn b) in eqb (rise (turn a) s) (rise (turn b) s)
 
 abbrev pub alignedAs : Alignment → Row → Row → Bool
 alignedAs free a b = true
@@ -70,7 +70,7 @@ aligned (binary o a b) = alignedAs (alignment o) a b
 -- ---- emptied granules (check 10): after n coarse granules the altering repeats
 
 abbrev pub emptiedBy : Binary → Row → Row → Bool
-emptiedBy (alter x y z) a b = any (λ i. ltZ (lastFine a b x y z i) (firstFine a b x y z i)) (from (pos 0) (coarse a b x))
+emptiedBy (alter x y z) a b = any (λ i. ltZ (lastFine a b x y z i) (firstFine a b x y z i)) (from (pos 0) (coarse (turn a) (turn b) x))
 emptiedBy combine a b = false
 emptiedBy anchor a b = false
 emptiedBy (select s) a b = false
@@ -82,7 +82,7 @@ emptied bottom = false
 emptied (unary u a) = false
 emptied (binary o a b) = emptiedBy o a b
 
--- ---- the working row (checks 11 and 12)
+-- ---- the labels of the working row (checks 12 and 11)
 
 -- the limit of labels and instants, 1,000,000,000
 abbrev pub limit : ℤ
@@ -95,22 +95,31 @@ between lo hi z = leZ lo z && leZ z hi
 abbrev pub inRange : ℤ → Bool
 inRange = between (negℤ limit) limit
 
-abbrev pub labelsOf : List ℤ → List ℤ
-labelsOf = keep (λ z. isSome (labelOf z))
+-- the test passes at each instant of the working row
+abbrev pub throughout : Operation Row → (Option ℤ → Bool) → Bool
+throughout o f = all (λ t. f (result o t)) (from (pos 0) (size o .period))
 
 -- "no instant is labelled"
-abbrev pub unlabelled : Row → Bool
-unlabelled r = eqb (length (labelsOf (r .cells))) 0
+unfoldable pub unlabelled : Operation Row → Bool
+unfolding result size
+unlabelled o = throughout o (λ l. not (isSome l))
 
--- check 11 passes: no "label in the working row outside ±1,000,000,000"
-abbrev pub labelsInRange : Row → Bool
-labelsInRange r = all inRange (labelsOf (r .cells))
+-- no "label in the working row outside ±1,000,000,000"
+unfoldable pub labelsInRange : Operation Row → Bool
+unfolding result size
+labelsInRange o = throughout o (λ l. ifLabel l inRange)
 
 -- ---- a row that is handed in (check 13)
 
 -- the longest pool and the longest period, in cells
 abbrev pub poolLimit : ℕ
 poolLimit = 1048576
+
+abbrev pub labelsOf : List ℤ → List ℤ
+labelsOf = keep (λ z. isSome (labelOf z))
+
+abbrev pub cellsInRange : Row → Bool
+cellsInRange r = all inRange (labelsOf (r .cells))
 
 -- no number is below the one before
 abbrev pub neverFalls : List ℤ → Bool
@@ -125,6 +134,6 @@ sound r =
     let l = labelsOf (r .cells) in
     eqb (length (r .cells)) (r .period)
     && (leb 1 (r .distance) && (leb (r .distance) (r .period) && (leb (r .period) poolLimit
-    && (all inRange l
+    && (cellsInRange r
     && (not (eqb (length l) 0)
     && neverFalls (l ++ ((first l +ℤ pos (r .distance)) ∷ [])))))))

@@ -18,7 +18,7 @@ use Rattle.calendar.specs.Operation.Operation.{bottom, unary, binary}
 use Rattle.calendar.specs.Algebra.{pick, alteredFirst, alteredLast}
 use Rattle.calendar.specs.Lists.{any, keep, from, first, last, equal, onLabel, only, distinct}
 use Rattle.calendar.specs.Granules.{has, inside, meeting, within}
-use Rattle.calendar.specs.Size.{coarse, fine, size}
+use Rattle.calendar.specs.Size.{turn, coarse, fine, size}
 
 -- ---- alter
 
@@ -37,8 +37,8 @@ lastFine a b x y z i = alteredLast x y z i (last (meeting a b i))
 unfoldable pub altered : Row → Row → ℕ → ℕ → ℤ → ℤ → Option ℤ
 unfolding coarse fine firstFine lastFine floorDiv
 altered a b x y z j =
-    let n = coarse a b x in
-    let i₀ = floorDiv (j -ℤ firstFine a b x y z (pos 0)) (up (fine a b x z)) *ℤ pos n in
+    let n = coarse (turn a) (turn b) x in
+    let i₀ = floorDiv (j -ℤ firstFine a b x y z (pos 0)) (up (fine (turn a) (turn b) x z)) *ℤ pos n in
     elim (keep (λ i. leZ (firstFine a b x y z i) j && leZ j (lastFine a b x y z i)) (from i₀ n)) [ [] ↦ none | i ∷ l ↦ some i ]
 
 -- ---- renumber

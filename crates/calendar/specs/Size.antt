@@ -1,78 +1,106 @@
--- The span of an operation over rows, its working period and the distance that goes with it (document 01, "How much room an
--- entry takes").
-use Prim.Native.Nat.{ℕ, _+_, _*_, _/_}
+-- The span of an operation, its working period and the distance that goes with it (document 01, "How much room an entry takes"),
+-- from the periods and distances of its operands.
+use Prim.Native.Nat.{ℕ, _*_, _/_}
 use lib.IntN.{ℤ, pos, _+ℤ_, _*ℤ_}
 use Rattle.integers.specs.Parts.{up}
 use Rattle.integers.specs.Gcd.{gcd, lcm, euclid}
 use Rattle.calendar.specs.Meaning.{Row}
-use Rattle.calendar.specs.Operation.{Unary, Binary, Operation}
+use Rattle.calendar.specs.Operation.{Unary, Binary, Operation, mapOperation}
 use Rattle.calendar.specs.Operation.Unary.{group, shift, renumber}
 use Rattle.calendar.specs.Operation.Binary.{alter, combine, anchor, select, by-labels}
 use Rattle.calendar.specs.Operation.Operation.{bottom, unary, binary}
 use Rattle.calendar.specs.Granules.{granules}
 
+-- a period with its distance
+pub record Turn : Type 0 where
+  pub period : ℕ
+  pub distance : ℕ
+
+abbrev pub turn : Row → Turn
+turn r = record { period = r .period; distance = r .distance }
+
+-- ---- the span
+
 -- "Span = lcm(Pa, Pb); one operand: Pa; bottom: 1."
-unfoldable pub spanOf : Row → Row → ℕ
+unfoldable pub spanOf : Turn → Turn → ℕ
 unfolding gcd lcm euclid
 spanOf a b = lcm (a .period) (b .period)
 
-unfoldable pub span : Operation Row → ℕ
+unfoldable pub span : Operation Turn → ℕ
 unfolding spanOf
 span bottom = 1
 span (unary u a) = a .period
 span (binary o a b) = spanOf a b
 
 -- how far the labels rise over s instants, a multiple of the period
-abbrev pub rise : Row → ℕ → ℕ
-rise r s = r .distance * (s / r .period)
+abbrev pub rise : Turn → ℕ → ℕ
+rise a s = a .distance * (s / a .period)
 
 -- ---- alter
 
 -- "n = lcm(A, x)", A being how far b's labels rise over the span
-unfoldable pub coarse : Row → Row → ℕ → ℕ
+unfoldable pub coarse : Turn → Turn → ℕ → ℕ
 unfolding spanOf gcd lcm euclid
 coarse a b x = lcm (rise b (spanOf a b)) x
 
 -- "D = (n/A)·B + z·n/x", B being how far a's labels rise over the span
-unfoldable pub fine : Row → Row → ℕ → ℤ → ℤ
+unfoldable pub fine : Turn → Turn → ℕ → ℤ → ℤ
 unfolding coarse spanOf
 fine a b x z =
     let n = coarse a b x in
     pos (n / rise b (spanOf a b) * rise a (spanOf a b)) +ℤ z *ℤ pos (n / x)
 
--- ---- the working period with its distance
-
-pub record Size : Type 0 where
-  pub period : ℕ
-  pub distance : ℕ
-
 -- "r = Na/gcd(D, Na); the working period is Pa·r·D/Na and its distance r·n"
-unfoldable pub alterSize : Row → Row → ℕ → ℤ → Size
+unfoldable pub alterTurn : Turn → Turn → ℕ → ℤ → Turn
 unfolding fine coarse gcd euclid
-alterSize a b x z =
+alterTurn a b x z =
     let d = up (fine a b x z) in
     let r = a .distance / gcd d (a .distance) in
     record { period = a .period * r * d / a .distance; distance = r * coarse a b x }
 
--- "group, Pa·x/gcd(x, Na)"; renumbered, a turn of the row rises by its granules
-abbrev pub sizeUnary : Unary → Row → Size
-sizeUnary (group x) a = let g = gcd x (a .distance) in record { period = a .period * x / g; distance = a .distance / g }
-sizeUnary (shift x) a = record { period = a .period; distance = a .distance }
-sizeUnary (renumber x) a = record { period = a .period; distance = granules a }
+-- ---- the working period
 
--- over the span, with the rise of a
-abbrev pub spanSize : Row → Row → Size
-spanSize a b = record { period = spanOf a b; distance = rise a (spanOf a b) }
+-- "group, Pa·x/gcd(x, Na)"
+abbrev pub periodUnary : Unary → Turn → ℕ
+periodUnary (group x) a = a .period * x / gcd x (a .distance)
+periodUnary (shift x) a = a .period
+periodUnary (renumber x) a = a .period
 
-abbrev pub sizeBinary : Binary → Row → Row → Size
-sizeBinary (alter x y z) a b = alterSize a b x z
-sizeBinary combine a b = spanSize a b
-sizeBinary anchor a b = spanSize a b
-sizeBinary (select s) a b = spanSize a b
-sizeBinary (by-labels s) a b = spanSize a b
+abbrev pub periodBinary : Binary → Turn → Turn → ℕ
+periodBinary (alter x y z) a b = alterTurn a b x z .period
+periodBinary combine a b = spanOf a b
+periodBinary anchor a b = spanOf a b
+periodBinary (select s) a b = spanOf a b
+periodBinary (by-labels s) a b = spanOf a b
 
-unfoldable pub size : Operation Row → Size
-unfolding gcd euclid granules spanOf alterSize
-size bottom = record { period = 1; distance = 1 }
-size (unary u a) = sizeUnary u a
-size (binary o a b) = sizeBinary o a b
+-- "Working period: the span, except group .. and alter."
+unfoldable pub workingPeriod : Operation Turn → ℕ
+unfolding gcd euclid spanOf alterTurn
+workingPeriod bottom = 1
+workingPeriod (unary u a) = periodUnary u a
+workingPeriod (binary o a b) = periodBinary o a b
+
+-- ---- its distance, by the meaning of each kind
+
+-- renumbered, the labels rise by the granules of a turn
+abbrev pub distanceUnary : Unary → Row → ℕ
+distanceUnary (group x) a = a .distance / gcd x (a .distance)
+distanceUnary (shift x) a = a .distance
+distanceUnary (renumber x) a = granules a
+
+abbrev pub distanceBinary : Binary → Turn → Turn → ℕ
+distanceBinary (alter x y z) a b = alterTurn a b x z .distance
+distanceBinary combine a b = rise a (spanOf a b)
+distanceBinary anchor a b = rise a (spanOf a b)
+distanceBinary (select s) a b = rise a (spanOf a b)
+distanceBinary (by-labels s) a b = rise a (spanOf a b)
+
+unfoldable pub workingDistance : Operation Row → ℕ
+unfolding gcd euclid granules spanOf alterTurn
+workingDistance bottom = 1
+workingDistance (unary u a) = distanceUnary u a
+workingDistance (binary o a b) = distanceBinary o (turn a) (turn b)
+
+unfoldable pub size : Operation Row → Turn
+unfolding workingPeriod workingDistance
+size o = record { period = workingPeriod (mapOperation turn o); distance = workingDistance o }

@@ -16,7 +16,7 @@ use Rattle.calendar.specs.Operation.Operation.{bottom, unary, binary}
 use Rattle.calendar.specs.Reply.{Reply, require, andThen}
 use Rattle.calendar.specs.Reply.Reply.{refused, answer}
 use Rattle.calendar.specs.Lists.{equal}
-use Rattle.calendar.specs.Size.{span, size}
+use Rattle.calendar.specs.Size.{turn, span, size}
 use Rattle.calendar.specs.Compute.{working}
 use Rattle.calendar.specs.Checks.{fullOperands, aligned, emptied, unlabelled, labelsInRange, between, inRange, poolLimit}
 use Rattle.calendar.specs.Least.{least}
@@ -25,17 +25,16 @@ use Rattle.calendar.specs.Least.{least}
 
 -- 7, "8 for the span", 9, 10, "8 for the working period", 12, 11; then the least form
 unfoldable pub converted : Operation Row → ℕ → Reply Row
-unfolding fullOperands span aligned emptied size working least
+unfolding fullOperands span aligned emptied size unlabelled labelsInRange working least
 converted o room =
-    let w = working o in
     require 7 (fullOperands o)
-    (require 8 (leb (span o) room)
+    (require 8 (leb (span (mapOperation turn o)) room)
     (require 9 (aligned o)
     (require 10 (not (emptied o))
     (require 8 (leb (size o .period) room)
-    (require 12 (not (unlabelled w))
-    (require 11 (labelsInRange w)
-    (answer (least w))))))))
+    (require 12 (not (unlabelled o))
+    (require 11 (labelsInRange o)
+    (answer (least (working o)))))))))
 
 -- ---- the six numbers of an entry
 

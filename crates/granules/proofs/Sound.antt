@@ -17,7 +17,7 @@ use Rattle.integers.specs.Floor.{floorDiv, floorMod}
 use Rattle.integers.proofs.Floor.{floor-eq, floor-mono}
 use Rattle.calendar.specs.Meaning.{Row, meant, Ordered, labelOf, empty, raise}
 use Rattle.calendar.specs.Lists.{first}
-use Rattle.calendar.specs.Checks.{sound, labelsInRange, labelsOf, neverFalls, poolLimit}
+use Rattle.calendar.specs.Checks.{sound, cellsInRange, labelsOf, neverFalls, poolLimit}
 use Rattle.granules.specs.Valid.{Valid}
 use Rattle.granules.proofs.Tests.{true≢false, and-iff, not-iff, false-iff, eqb-iff, leb-iff, leZ-iff, some-inj, none≢some, none-or-some}
 use Rattle.granules.proofs.Rows.{cellLabel, meant-repeats, meant-some, cell-meant, labels-mem, mem-labels, label-index, labels-cons, labels-skip}
@@ -167,7 +167,7 @@ falls-ordered r w h s t i j k e f = by (cases q q′)
 -- what rule 13 asks, part by part
 sound-parts : (r : Row) → (sound r ≡ true) ↔ (
     (length (r .cells) ≡ r .period) × ((1 ≤ r .distance) × ((r .distance ≤ r .period) × ((r .period ≤ poolLimit)
-    × ((labelsInRange r ≡ true) × ((eqb (length (labelsOf (r .cells))) 0 ≡ false) × (neverFalls (turn r) ≡ true)))))))
+    × ((cellsInRange r ≡ true) × ((eqb (length (labelsOf (r .cells))) 0 ≡ false) × (neverFalls (turn r) ≡ true)))))))
 unfolding sound turn
 sound-parts r = simp (and-iff, not-iff, eqb-iff, leb-iff) (λ h. h, λ h. h)
 
@@ -186,7 +186,7 @@ sound-valid r h =
       labelled = (pos (m .0), cell-meant r (p .0) (m .0) (first l) (m .1));
     }
 
-pub sound-limits : (r : Row) → sound r ≡ true → (r .distance ≤ r .period) × (r .period ≤ poolLimit) × (labelsInRange r ≡ true)
+pub sound-limits : (r : Row) → sound r ≡ true → (r .distance ≤ r .period) × (r .period ≤ poolLimit) × (cellsInRange r ≡ true)
 sound-limits r h = let p = sound-parts r .0 h in (p .1 .1 .0, p .1 .1 .1 .0, p .1 .1 .1 .1 .0)
 
 -- a label of the first turn is at most the first of the next
@@ -209,7 +209,7 @@ ordered-falls r v =
         v .ordered (pos m) (pos (p .0) +ℤ pos (r .period)) i (first l +ℤ pos (r .distance)) (simp ints (omega (arith, v .whole))) (at m i e)
         (meant-repeats r (v .positive .0) (pos (p .0)) ∙ ap (raise (pos (r .distance))) (at (p .0) (first l) (p .1)))
 
-pub valid-sound : (r : Row) → Valid r → r .distance ≤ r .period → r .period ≤ poolLimit → labelsInRange r ≡ true → sound r ≡ true
+pub valid-sound : (r : Row) → Valid r → r .distance ≤ r .period → r .period ≤ poolLimit → cellsInRange r ≡ true → sound r ≡ true
 valid-sound r v d p l =
     let t = v .labelled .0 in
     let j = v .label -ℤ pos (r .distance) *ℤ floorDiv t (r .period) in
