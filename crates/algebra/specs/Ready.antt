@@ -1,0 +1,57 @@
+-- An operation over rows that has passed its checks, and what is then right of its computed result.
+use mathlib.Core.Path.{_≡_}
+use mathlib.Core.Logic.{_↔_}
+use mathlib.Core.Option.{some}
+use Prim.Native.Nat.{_≤_}
+use lib.IntN.{ℤ}
+use Rattle.calendar.specs.Meaning.{Row, Calendar, meant, Ordered, Repeats}
+use Rattle.calendar.specs.Operation.{Unary, Binary, Operation, mapOperation}
+use Rattle.calendar.specs.Operation.Unary.{group, shift, renumber}
+use Rattle.calendar.specs.Operation.Binary.{alter, combine, anchor, select, by-labels}
+use Rattle.calendar.specs.Operation.Operation.{bottom, unary, binary}
+use Rattle.calendar.specs.Algebra.{Labels, FullOperands, Aligned, Emptied}
+use Rattle.calendar.specs.Size.{size}
+use Rattle.calendar.specs.Compute.{result}
+use Rattle.granules.specs.Valid.{Valid}
+
+-- what holds of each operand
+abbrev pub Operands : {A : Type 0} → (A → Type 0) → Operation A → Type 0
+Operands P bottom = Unit {0}
+Operands P (unary u a) = P a
+Operands P (binary o a b) = P a × P b
+
+-- a factor is at least 1: what check 6 gives that the results rest on
+abbrev pub FactorUnary : Unary → Type 0
+FactorUnary (group x) = 1 ≤ x
+FactorUnary (shift x) = Unit {0}
+FactorUnary (renumber x) = Unit {0}
+
+abbrev pub FactorBinary : Binary → Type 0
+FactorBinary (alter x y z) = 1 ≤ x
+FactorBinary combine = Unit {0}
+FactorBinary anchor = Unit {0}
+FactorBinary (select s) = Unit {0}
+FactorBinary (by-labels s) = Unit {0}
+
+abbrev pub Factor : {A : Type 0} → Operation A → Type 0
+Factor bottom = Unit {0}
+Factor (unary u a) = FactorUnary u
+Factor (binary o a b) = FactorBinary o
+
+-- the calendars that its rows mean
+abbrev pub meaning : Operation Row → Operation Calendar
+meaning = mapOperation meant
+
+pub record Ready (o : Operation Row) : Type 0 where
+  pub valid : Operands Valid o
+  pub factor : Factor o
+  pub full : FullOperands (meaning o)
+  pub aligned : Aligned (meaning o)
+  pub kept : ¬ (Emptied (meaning o))
+
+-- the computed result labels instants as the algebra says, in order, and repeats with the working period and its distance
+pub record Right (o : Operation Row) : Type 0 where
+  pub labels : (t i : ℤ) → (result o t ≡ some i) ↔ Labels (meaning o) t i
+  pub ordered : Ordered (result o)
+  pub repeats : Repeats (size o .period) (size o .distance) (result o)
+  pub positive : (1 ≤ size o .period) × (1 ≤ size o .distance)
