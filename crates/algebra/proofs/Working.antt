@@ -7,7 +7,7 @@ use mathlib.Core.List.{List, [], _∷_, map}
 use Prim.Native.Nat.{ℕ, zero, suc, _<_}
 use native.Mathlib.Omega.{arith}
 use lib.IntN.{ℤ, pos, negℤ, _+ℤ_, _*ℤ_}
-use lib.Signed.{_≤ℤ_, _<ℤ_, leZ}
+use lib.Signed.{_≤ℤ_, _<ℤ_}
 use lib.ListN.{length, getD, length-map}
 use Rattle.integers.specs.Floor.{floorDiv, floorMod}
 use Rattle.integers.proofs.Linear.{ints, _∴_}
@@ -19,7 +19,7 @@ use Rattle.calendar.specs.Size.{size}
 use Rattle.calendar.specs.Compute.{result, working, cellOf}
 use Rattle.calendar.specs.Checks.{unlabelled, labelsInRange, throughout, inRange, limit}
 use Rattle.granules.specs.Valid.{Valid}
-use Rattle.granules.proofs.Tests.{and-iff, not-iff, false-iff, true≢false, leZ-iff, isSome-iff, ifLabel-iff, none-or-some}
+use Rattle.granules.proofs.Tests.{and-iff, not-iff, false-iff, true≢false, leZ-iff, isSome-iff, ifLabel-iff}
 use Rattle.granules.proofs.Lists.{all-iff, mem-from, length-from}
 use Rattle.granules.proofs.Calendars.{labelled-near}
 use Rattle.granules.proofs.Rows.{meant-cell, meant-repeats, valid-of-calendar}

@@ -4,8 +4,10 @@
 --     Slips        the easy slips
 --     Examples     an example of each other kind
 --     Refused      an example of each refusal of a conversion, and their order
+--     Relations    what the relations of the algebra rule out
 pub mod Worked
 pub mod Altering
 pub mod Slips
 pub mod Examples
 pub mod Refused
+pub mod Relations

@@ -1,0 +1,41 @@
+-- Operations with other operands, and replies that rest on checks.
+use mathlib.Core.Path.{_≡_, refl, ap, ap₂}
+use mathlib.Core.Bool.{Bool, true, false}
+use Prim.Native.Nat.{ℕ}
+use native.Mathlib.Omega.{arith}
+use Rattle.calendar.specs.Operation.{Operation, mapOperation}
+use Rattle.calendar.specs.Operation.Operation.{bottom, unary, binary}
+use Rattle.calendar.specs.Reply.{Reply, require}
+use Rattle.calendar.specs.Reply.Reply.{answer}
+use Rattle.algebra.specs.Ready.{Operands, Factor}
+
+-- ---- operands
+
+-- what follows of each operand follows of all
+pub operands-weaken : {A : Type 0} {P Q : A → Type 0} → ((a : A) → P a → Q a) → (o : Operation A) → Operands P o → Operands Q o
+operands-weaken h bottom p = tt
+operands-weaken h (unary u a) p = h a p
+operands-weaken h (binary b l r) p = (h l (p .0), h r (p .1))
+
+pub operands-map : {A B : Type 0} (f : A → B) (Q : B → Type 0) (o : Operation A) → Operands (λ a. Q (f a)) o → Operands Q (mapOperation f o)
+operands-map f Q bottom p = tt
+operands-map f Q (unary u a) p = p
+operands-map f Q (binary b l r) p = p
+
+pub factor-map : {A B : Type 0} (f : A → B) (o : Operation A) → Factor o → Factor (mapOperation f o)
+factor-map f bottom p = tt
+factor-map f (unary u a) p = p
+factor-map f (binary b l r) p = p
+
+pub map-operands : {A B C D : Type 0} (f : A → B) (g : A → C) (h : B → D) (k : C → D) (o : Operation A)
+    → Operands (λ a. h (f a) ≡ k (g a)) o → mapOperation h (mapOperation f o) ≡ mapOperation k (mapOperation g o)
+map-operands f g h k bottom e = refl
+map-operands f g h k (unary u a) e = ap (unary u) e
+map-operands f g h k (binary b l r) e = ap₂ (binary b) (e .0) (e .1)
+
+-- ---- replies
+
+-- an answer behind a check: it has passed
+pub require-answer : {A : Type 0} {a : A} (n : ℕ) (b : Bool) (r : Reply A) → require n b r ≡ answer a → (b ≡ true) × (r ≡ answer a)
+require-answer n true r e = (refl, e)
+require-answer n false r e = let z : _≡_ {A = ℕ} 0 1 = cc in absurd (omega arith)
