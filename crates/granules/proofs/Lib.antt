@@ -9,6 +9,7 @@
 --     Inside       granules that meet or lie in one another
 --     Moved        granules moved by whole periods
 --     Count        how many granules a turn has; full rows
+--     Questions    the answers to questions, each in terms of the meaning
 --     Least        the least form of a row, and the periods of a calendar
 --     Equal        least rows are equal exactly if they mean the same calendar
 pub mod Tests
@@ -21,5 +22,6 @@ pub mod Granule
 pub mod Inside
 pub mod Moved
 pub mod Count
+pub mod Questions
 pub mod Least
 pub mod Equal

@@ -1,0 +1,157 @@
+-- The answers to questions, each in terms of the meaning.
+use mathlib.Core.Path.{_≡_, refl, sym, _∙_, ap}
+use mathlib.Core.Logic.{_↔_, _⊎_, inl, inr}
+use mathlib.Core.Option.{Option, none, some}
+use mathlib.Core.Bool.{Bool, true, false, cond}
+use mathlib.Core.List.{List, [], _∷_, List·Memᴰ}
+use Prim.Native.Nat.{ℕ, suc, _≤_, _<_}
+use native.Mathlib.Omega.{arith}
+use lib.IntN.{ℤ, pos, _+ℤ_, _-ℤ_}
+use lib.Signed.{_≤ℤ_}
+use lib.ListN.{length, getD}
+use Rattle.integers.proofs.Linear.{ints, _∴_}
+use Rattle.integers.proofs.Order.{pos-up}
+use Rattle.calendar.specs.Meaning.{Row, meant, Has, Inside, labelOf, empty, raise}
+use Rattle.calendar.specs.Algebra.{Rising}
+use Rattle.calendar.specs.Lists.{any, keep, from, first, last, is, isSome}
+use Rattle.calendar.specs.Granules.{granule, inside, within}
+use Rattle.calendar.specs.Questions.{holder, madeUp, labelledInstants, extent}
+use Rattle.granules.specs.Valid.{Valid}
+use Rattle.granules.proofs.Tests.{some-inj, none≢some, none-or-some, is-iff}
+use Rattle.granules.proofs.Lists.{all-iff, any-iff, first-least, last-greatest}
+use Rattle.granules.proofs.Calendars.{granule-near}
+use Rattle.granules.proofs.Rows.{meant-repeats, meant-cell}
+use Rattle.granules.proofs.Granule.{granule-lists}
+use Rattle.granules.proofs.Inside.{inside-iff, within-lists}
+use Rattle.granules.proofs.Count.{count, count-window}
+
+-- ---- the first and the last instant of a granule
+
+module _ (r : Row) (v : Valid r) (z : ℤ) (h : Has (meant r) z) where
+  pub first-labelled : meant r (first (granule r z)) ≡ some z
+  first-labelled =
+      let g = granule-lists r v z in
+      g .member (first (granule r z)) .1 (first-least (h .0) (granule r z) (g .rising) (g .member (h .0) .0 (h .1)) .0)
+
+  pub last-labelled : meant r (last (granule r z)) ≡ some z
+  last-labelled =
+      let g = granule-lists r v z in
+      g .member (last (granule r z)) .1 (last-greatest (h .0) (granule r z) (g .rising) (g .member (h .0) .0 (h .1)) .0)
+
+pub first-at-most : (r : Row) → Valid r → (z u : ℤ) → meant r u ≡ some z → first (granule r z) ≤ℤ u
+first-at-most r v z u e = let g = granule-lists r v z in first-least u (granule r z) (g .rising) (g .member u .0 e) .1
+
+pub last-at-least : (r : Row) → Valid r → (z u : ℤ) → meant r u ≡ some z → u ≤ℤ last (granule r z)
+last-at-least r v z u e = let g = granule-lists r v z in last-greatest u (granule r z) (g .rising) (g .member u .0 e) .1
+
+-- ---- up
+
+-- "the h label whose slot contains all of it"
+pub holder-iff : (g h : Row) → Valid g → Valid h → (z i : ℤ) → Has (meant g) z → (holder g h z ≡ some i) ↔ Inside (meant g) z (meant h) i
+unfolding holder
+holder-iff g h v w z i p = (there (meant h (first (granule g z))), back)
+  where
+    answered : Option ℤ → Option ℤ
+    answered o = elim o [ none ↦ none | some i ↦ cond (inside g z h i) (some i) none ]
+
+    there : (o : Option ℤ) → answered o ≡ some i → Inside (meant g) z (meant h) i
+    there none e = absurd (none≢some e)
+    there (some k) e = by (inside g z h k) refl e
+      where
+        by : (b : Bool) → inside g z h k ≡ b → cond b (some k) none ≡ some i → Inside (meant g) z (meant h) i
+        by true q e = rw (some-inj e) at (inside-iff g h v z k .0 q)
+        by false q e = absurd (none≢some e)
+
+    back : Inside (meant g) z (meant h) i → holder g h z ≡ some i
+    back s =
+        ap answered (s (first (granule g z)) (first-labelled g v z p))
+        ∙ ap (λ (b : Bool). cond b (some i) none) (inside-iff g h v z i .1 s)
+
+-- "or 'none'": no slot of h contains all of it
+pub holder-none : (g h : Row) → Valid g → Valid h → (z : ℤ) → Has (meant g) z → (holder g h z ≡ none) ↔ (¬ ((i : ℤ) × Inside (meant g) z (meant h) i))
+holder-none g h v w z p = (λ e s. none≢some (sym e ∙ holder-iff g h v w z (s .0) p .1 (s .1)), λ f. by f (none-or-some (holder g h z)))
+  where
+    by : ¬ ((i : ℤ) × Inside (meant g) z (meant h) i) → (holder g h z ≡ none) ⊎ ((i : ℤ) × (holder g h z ≡ some i)) → holder g h z ≡ none
+    by f (inl e) = e
+    by f (inr s) = absurd (f (s .0, holder-iff g h v w z (s .0) p .0 (s .1)))
+
+-- ---- down
+
+-- "the labels of g's slots inside it, rising"
+pub parts-exact : (g h : Row) → Valid g → Valid h → (z : ℤ)
+    → Rising (within g h z) × ((k : ℤ) → List·Memᴰ k (within g h z) ↔ (Has (meant g) k × Inside (meant g) k (meant h) z))
+parts-exact g h v w z = let x = within-lists g h v w z in (x .rising, λ k. (x .member k .1, x .member k .0))
+
+-- the union of the parts is the granule
+pub madeUp-iff : (h g : Row) → Valid h → Valid g → (z : ℤ)
+    → (madeUp h g z ≡ true) ↔ ((u : ℤ) → meant h u ≡ some z → (k : ℤ) × (meant g u ≡ some k) × Inside (meant g) k (meant h) z)
+unfolding madeUp
+madeUp-iff h g v w z =
+    let i = granule-lists h v z in
+    let x = within-lists g h w v z in
+    let a = all-iff (λ u. any (λ k. is k (meant g u)) (within g h z)) (granule h z) in (
+      λ e u p.
+          let s = any-iff (λ k. is k (meant g u)) (within g h z) .0 (a .0 e u (i .member u .0 p)) in
+          (s .0, is-iff (s .0) (meant g u) .0 (s .2), x .member (s .0) .1 (s .1) .1),
+      λ f. a .1 λ u m.
+          let s = f u (i .member u .1 m) in
+          any-iff (λ k. is k (meant g u)) (within g h z) .1 (s .0, x .member (s .0) .0 ((u, s .1), s .2), is-iff (s .0) (meant g u) .1 (s .1)),
+    )
+
+-- ---- labelled instants
+
+isSome-raise : (n : ℤ) (o : Option ℤ) → isSome (raise n o) ≡ isSome o
+isSome-raise n none = refl
+isSome-raise n (some j) = refl
+
+-- as many of the instants from t on pass one test as of the cells l pass another, where each instant passes as its cell
+count-same : (f g : ℤ → Bool) (l : List ℤ) (t : ℤ) → ((k : ℕ) → k < length l → f (t +ℤ pos k) ≡ g (getD l k empty)) → count f (from t (length l)) ≡ count g l
+count-same f g [] t h = refl
+count-same f g (x ∷ l) t h =
+    ap (λ (b : Bool). length (cond b (t ∷ rest) rest)) (ap f (simp ints (omega arith)) ∙ h 0 (omega arith))
+    ∙ by (g x) (count-same f g l (t +ℤ pos 1) (λ k p. ap f (simp ints (omega arith)) ∙ h (suc k) (omega arith)))
+  where
+    rest : List ℤ
+    rest = keep f (from (t +ℤ pos 1) (length l))
+
+    by : (b : Bool) → length rest ≡ count g l → length (cond b (t ∷ rest) rest) ≡ length (cond b (x ∷ keep g l) (keep g l))
+    by true e = ap suc e
+    by false e = e
+
+-- "labelled instants per period": among any P instants in a row
+pub labelled-window : (r : Row) → Valid r → (s : ℤ) → length (keep (λ t. isSome (meant r t)) (from s (r .period))) ≡ labelledInstants r
+labelled-window r v s =
+    let f : ℤ → Bool = λ t. isSome (meant r t) in
+    count-window f (r .period) (λ u. ap isSome (meant-repeats r (v .positive .0) u) ∙ isSome-raise (pos (r .distance)) (meant r u)) s
+    ∙ ap (λ (n : ℕ). count f (from (pos 0) n)) (sym (v .whole))
+    ∙ count-same f (λ z. isSome (labelOf z)) (r .cells) (pos 0)
+    (λ k p. ap f (simp ints (omega arith)) ∙ ap isSome (meant-cell r k (omega (arith, v .whole))))
+
+-- ---- the extent of a granule
+
+-- "The slot's length is last instant − first instant + 1."
+pub extent-iff : (r : Row) → Valid r → (z : ℤ) → Has (meant r) z
+    → (f : ℤ) × (l : ℤ) × (meant r f ≡ some z) × (meant r l ≡ some z)
+    × ((u : ℤ) → meant r u ≡ some z → (f ≤ℤ u) × (u ≤ℤ l))
+    × (pos (extent r z) ≡ l -ℤ f +ℤ pos 1)
+unfolding extent
+extent-iff r v z h = (
+  first (granule r z),
+  last (granule r z),
+  first-labelled r v z h,
+  last-labelled r v z h,
+  λ u e. (first-at-most r v z u e, last-at-least r v z u e),
+  pos-up {z = last (granule r z) -ℤ first (granule r z) +ℤ pos 1} (first-at-most r v z (last (granule r z)) (last-labelled r v z h) ∴ simp ints (omega arith)),
+)
+
+pub extent-positive : (r : Row) → Valid r → (z : ℤ) → Has (meant r) z → 1 ≤ extent r z
+extent-positive r v z h =
+    let x = extent-iff r v z h in
+    let l = x .4 (x .1) (x .3) .0 in
+    omega (arith, simp ints at (x .5), simp ints at l)
+
+pub extent-at-most : (r : Row) → Valid r → (z : ℤ) → Has (meant r) z → extent r z ≤ r .period
+extent-at-most r v z h =
+    let x = extent-iff r v z h in
+    let n = granule-near (meant r) (r .period) (r .distance) (meant-repeats r (v .positive .0)) (v .positive .1) (v .ordered) (x .0) (x .1) z (x .2) (x .3) in
+    omega (arith, simp ints at (x .5), simp ints at n)
