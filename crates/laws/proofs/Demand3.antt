@@ -1,0 +1,73 @@
+-- Demand 3 over the definitions: answered entries mean the same calendar exactly if their rows are equal; so every law holds on the stored rows.
+use mathlib.Core.Path.{subst}
+use mathlib.Core.Logic.{_↔_}
+use mathlib.Core.List.{List, [], _∷_}
+use Prim.Native.Nat.{ℕ, zero, suc, _<_}
+use native.Mathlib.Omega.{arith}
+use lib.IntN.{ℤ}
+use lib.ListN.{length, getD}
+use Rattle.calendar.specs.Meaning.{Row, Calendar, Same, IsCalendar}
+use Rattle.calendar.specs.Operation.{Operation}
+use Rattle.calendar.specs.Table.{entryAt}
+use Rattle.algebra.specs.TableMeaning.{Meant, nothing}
+use Rattle.algebra.specs.TableMeaning.TableReply.{means}
+use Rattle.algebra.specs.Represents.{Represents, RepresentsAll, Agrees}
+use Rattle.algebra.proofs.Named.{named-operation}
+use Rattle.algebra.proofs.Demand2.{demand-2-only}
+use Rattle.granules.proofs.Equal.{equal-rows}
+use Rattle.laws.specs.Terms.{Term, Value}
+use Rattle.laws.specs.Terms.Term.{operand, bottom, unary, binary}
+use Rattle.laws.specs.Laws.{Law}
+use Rattle.laws.specs.Matches.{Matches, calendarAt, EqualRows, rowAt}
+use Rattle.laws.specs.Answered.{Answered}
+use Rattle.laws.proofs.Algebra.{law-holds}
+use Rattle.laws.proofs.Entries.{EntryDefined, table-defined}
+
+-- ---- rows
+
+represents-at : (ms : List Meant) (rs : List Row) → RepresentsAll ms rs → (k : ℕ) → k < length ms → Represents (getD ms k nothing) (rowAt rs k)
+represents-at [] [] h k l = absurd (omega arith)
+represents-at [] (r ∷ rs) h k l = absurd h
+represents-at (m ∷ ms) [] h k l = absurd h
+represents-at (m ∷ ms) (r ∷ rs) h zero l = h .0
+represents-at (m ∷ ms) (r ∷ rs) h (suc k) l = represents-at ms rs (h .1) k (omega arith)
+
+-- the stored row of an entry stands for its calendar
+stored-represents : (x : Answered) (k : ℕ) → k < length (x .meanings) → Represents (getD (x .meanings) k nothing) (rowAt (x .stored) k)
+stored-represents x =
+    represents-at (x .meanings) (x .stored)
+    (subst (Agrees (means (x .meanings))) (x .stores) (demand-2-only (x .table) (x .headings) (x .pool) (means (x .meanings)) (x .means)))
+
+-- (a) two answered entries, of one table or of two, mean the same calendar exactly if period, distance and cells are equal
+pub demand-3-rows : (x y : Answered) (k l : ℕ) → k < length (x .meanings) → l < length (y .meanings)
+    → Same (calendarAt (x .meanings) k) (calendarAt (y .meanings) l) ↔ EqualRows (rowAt (x .stored) k) (rowAt (y .stored) l)
+demand-3-rows x y k l h h′ =
+    let r = stored-represents x k h in
+    equal-rows (calendarAt (x .meanings) k) (calendarAt (y .meanings) l) (rowAt (x .stored) k) (rowAt (y .stored) l) (r .calendar) (r .least)
+    (stored-represents y l h′ .least)
+
+-- ---- laws
+
+-- the calendar of an entry that matches a term is a value of the term
+module _ (t : List ℤ) (ms : List Meant) (defined : (k : ℕ) → k < length ms → EntryDefined t ms k) (v : ℕ → Calendar) where
+  matches-value : (s : Term) (k : ℕ) → k < length ms → Matches t ms v s k → Value v s (calendarAt ms k)
+  matches-value (operand n) k h m = m
+  matches-value bottom k h m = defined k h Operation.bottom m
+  matches-value (unary u s) k h (i, e, m) =
+      let o = Operation.unary u i in
+      let l = named-operation k (entryAt t k) o e .1 in
+      (calendarAt ms i, matches-value s i (omega arith) m, defined k h o e)
+  matches-value (binary b s s′) k h (i, j, e, m, m′) =
+      let o = Operation.binary b i j in
+      let l = named-operation k (entryAt t k) o e .1 in
+      (calendarAt ms i, calendarAt ms j, matches-value s i (omega arith) m, matches-value s′ j (omega arith) m′, defined k h o e)
+
+-- (b) entries that match the two sides of a law have equal rows
+pub demand-3-laws : (x y : Answered) (k l : ℕ) → k < length (x .meanings) → l < length (y .meanings)
+    → (s s′ : Term) → Law s s′ → (v : ℕ → Calendar) → ((n : ℕ) → IsCalendar (v n))
+    → Matches (x .table) (x .meanings) v s k → Matches (y .table) (y .meanings) v s′ l → EqualRows (rowAt (x .stored) k) (rowAt (y .stored) l)
+demand-3-laws x y k l h h′ s s′ law v is m m′ =
+    demand-3-rows x y k l h h′ .0
+    (law-holds s s′ law v is (calendarAt (x .meanings) k) (calendarAt (y .meanings) l)
+    (matches-value (x .table) (x .meanings) (table-defined (x .means)) v s k h m)
+    (matches-value (y .table) (y .meanings) (table-defined (y .means)) v s′ l h′ m′))
