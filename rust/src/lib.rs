@@ -3,7 +3,8 @@
 //!
 //! - [`second`] is the second implementation, written from document 01 alone.
 //! - [`core`] wraps the C functions of the proved core in the same signatures.
-//! - [`random`] and [`tables`] make random numbers, rows and tables from a seed.
+//! - [`random`], [`tables`] and [`rows`] make random numbers, tables, and rows with
+//!   questions to them, all from a seed.
 //! - [`timing`] measures both sides.
 //!
 //! `cargo test --release` runs everything that needs no core. With the core's
@@ -18,6 +19,7 @@
 
 pub mod core;
 pub mod random;
+pub mod rows;
 pub mod second;
 pub mod tables;
 pub mod timing;

@@ -21,9 +21,9 @@ pub struct Case {
     pub pool: usize,
 }
 
-/// A random case. One of a hundred and fifty has rows of up to a million cells.
+/// A random case. One of a hundred has rows of up to a million cells.
 pub fn case(random: &mut Random) -> Case {
-    if random.below(150) == 0 {
+    if random.below(100) == 0 {
         case_within(random, CELL_LIMIT, true)
     } else {
         let cells = random.choose(&[40, 400, 400, 4000, 4000]);
@@ -203,10 +203,10 @@ impl Builder {
         self.offer(&[0; 6], None, random);
         let mut base = 0;
         if aim == Some(11) && random.percent(70) {
-            // Days with labels far out, for later entries to go too far.
-            let x = LABEL_LIMIT - random.range(0, 60) as i32;
-            self.offer(&[2, 0, 0, random.choose(&[x, -x]), 0, 0], None, random);
-            base = self.known.len() as i32 - 1;
+            base = self.far_days(random);
+        }
+        if aim == Some(9) && random.percent(30) {
+            self.move_days_apart(random);
         }
         if long && random.percent(60) {
             let x = random.choose(&[50_000, 400_000, 1_000_000]);
@@ -220,7 +220,7 @@ impl Builder {
             }
         }
         let mut tries = 0;
-        while self.known.len() < wanted && tries < 4 * wanted {
+        while self.refusal.is_none() && self.known.len() < wanted && tries < 4 * wanted {
             tries += 1;
             let early = self.known.len() < wanted / 2;
             let entry = match aim {
@@ -228,27 +228,72 @@ impl Builder {
                 _ => self.suitable_entry(random, long),
             };
             self.offer(&entry, aim, random);
-            if self.refusal.is_some() {
-                return;
-            }
         }
-        if let Some(aim) = aim {
-            for _ in 0..20 {
-                let entry = self.entry_for(aim, random);
-                if self.known.len() == ENTRY_LIMIT {
-                    return;
-                }
-                self.offer(&entry, Some(aim), random);
-                if self.refusal.is_some() {
-                    return;
-                }
+        tries = 0;
+        while self.refusal.is_none() && self.known.len() < ENTRY_LIMIT && tries < 20 {
+            let Some(aim) = aim else {
+                return;
+            };
+            tries += 1;
+            let entry = self.entry_for(aim, random);
+            self.offer(&entry, Some(aim), random);
+        }
+    }
+
+    /// Days with labels far out, for later entries to go too far, and perhaps
+    /// selections of these with periods that make long spans together. Gives
+    /// the days' entry.
+    fn far_days(&mut self, random: &mut Random) -> i32 {
+        let x = LABEL_LIMIT - random.range(0, 40) as i32;
+        self.offer(&[2, 0, 0, random.choose(&[x, x, -x]), 0, 0], None, random);
+        let days = self.known.len() as i32 - 1;
+        if random.percent(70) {
+            for length in [random.range(2, 5), random.range(6, 9)] {
+                let groups = self.known.len() as i32;
+                self.offer(&[1, days, 0, length as i32, 0, 0], None, random);
+                let (x, y) = Self::pick(random);
+                self.offer(&[6, days, groups, x, y, 0], None, random);
             }
+        } else {
+            let groups = self.known.len() as i32;
+            self.offer(&[1, 0, 0, random.range(2, 3) as i32, 0, 0], None, random);
+            self.offer(&[2, groups, 0, x, 0, 0], None, random);
+        }
+        days
+    }
+
+    /// Two selections of days, one of them moved, and perhaps an entry that
+    /// would have labels fall: inside a turn or from one to the next. Nothing
+    /// but bottom has to be there before.
+    fn move_days_apart(&mut self, random: &mut Random) {
+        let weeks = self.known.len() as i32;
+        let length = random.range(2, 8) as i32;
+        let first = random.range(1, length.into()) as i32;
+        let second = random.range(1, length.into()) as i32;
+        let moved = random.choose(&[1, 2, length, 2 * length, -1, -length, -2 * length]);
+        let entries = [
+            [1, 0, 0, length, 0, 0],
+            [6, 0, weeks, first, random.range(1, 3) as i32, 0],
+            [6, 0, weeks, second, random.range(1, 2) as i32, 0],
+            [2, weeks + 2, 0, moved, 0, 0],
+        ];
+        if entries.iter().all(|entry| self.add(entry).is_ok()) && random.percent(60) {
+            let kind = random.range(9, 11) as i32;
+            let (one, other) = random.choose(&[(1, 3), (3, 1)]);
+            self.offer(
+                &[kind, weeks + one, weeks + other, 0, 0, 0],
+                Some(9),
+                random,
+            );
         }
     }
 
     /// Takes the entry in if it is answered. A refused one is kept, and ends
     /// the table, if it is what is aimed at, and rarely otherwise.
     fn offer(&mut self, entry: &[i32; 6], aim: Option<u32>, random: &mut Random) {
+        if self.refusal.is_some() {
+            return;
+        }
         match self.add(entry) {
             // A calendar that is there already is of less interest.
             Ok(()) if self.last_is_repeated() && random.percent(80) => self.remove_last(),
@@ -358,6 +403,22 @@ impl Builder {
             let first = self.any(random);
             let second = random.choose(&self.stock(self.known[first as usize].stock));
             if first != second {
+                return (first, second);
+            }
+        }
+        let alone = self.any(random);
+        (alone, alone)
+    }
+
+    /// Two entries whose labels rise equally fast, different ones if there are.
+    fn even(&self, random: &mut Random) -> (i32, i32) {
+        for _ in 0..12 {
+            let (first, second) = (self.any(random), self.any(random));
+            let (a, b) = (
+                &self.known[first as usize].row,
+                &self.known[second as usize].row,
+            );
+            if first != second && a.distance * b.period as i64 == b.distance * a.period as i64 {
                 return (first, second);
             }
         }
@@ -574,14 +635,24 @@ impl Builder {
             },
             9 => {
                 let (a, b) = (self.any(random), self.any(random));
-                entry = match random.below(6) {
+                let (even_a, even_b) = self.even(random);
+                let sets = random.range(9, 11) as i32;
+                entry = match random.below(10) {
                     0 => [3, self.any_full(random), self.any_full(random), 2, 1, 1],
                     1 => [5, self.any_full(random), b, 0, 0, 0],
                     2 => {
                         let (fine, coarse) = self.aligned(random);
                         [3, coarse, fine, 2, 1, 1]
                     }
-                    _ => [random.range(9, 11) as i32, a, b, 0, 0, 0],
+                    3 => [5, even_a, even_b, 0, 0, 0],
+                    // Moves labels against those of the same stock.
+                    4 => {
+                        let distance = self.known[even_a as usize].row.distance as i32;
+                        let x = random.choose(&[1, 2, distance, distance, 2 * distance]);
+                        [2, even_a, 0, random.choose(&[x, -x]), 0, 0]
+                    }
+                    5..=7 => [sets, even_a, even_b, 0, 0, 0],
+                    _ => [sets, a, b, 0, 0, 0],
                 };
             }
             10 => {
@@ -594,9 +665,20 @@ impl Builder {
             11 => {
                 let a = self.any(random);
                 let x = random.choose(&[LABEL_LIMIT, -LABEL_LIMIT, 999_999_990, -999_999_990]);
+                let (first, second) = self.kin(random);
                 entry = match random.below(16) {
                     0 => [2, a, 0, x, 0, 0],
                     1 => [12, a, 0, x, 0, 0],
+                    // Calendars of one stock over a long span.
+                    2 => [4, first, second, 0, 0, 0],
+                    3 => [7, first, second, 0, 0, 0],
+                    4 => [5, self.known[first as usize].stock as i32, second, 0, 0, 0],
+                    // Slots made as short as can be lie further out.
+                    5 | 6 => {
+                        let (fine, coarse) = self.aligned(random);
+                        let z = random.choose(&[-1, -2, 1000]);
+                        [3, fine, coarse, 1, 1, z]
+                    }
                     // Whatever suits, over labels that are far out already.
                     _ => entry,
                 };

@@ -4,11 +4,10 @@
 //! 12 and 11 are judged on the finished row, except where a label wouldn't
 //! even fit a cell.
 
-use std::borrow::Cow;
-use std::ops::RangeInclusive;
+use std::ops::{Range, RangeInclusive};
 
 use super::numbers::{ceil_div, gcd, lcm};
-use super::slots::{raise, Operand, Slots, Stretch};
+use super::slots::{never_fall, raise, Operand, Ranges, Slots, Stretch};
 use super::{EMPTY, LABEL_LIMIT};
 
 /// Period and distance of a finished working row.
@@ -34,7 +33,7 @@ pub struct Pick {
 
 impl Pick {
     /// The positions taken out of `count`, counted from 0.
-    fn positions(self, count: usize) -> std::ops::Range<usize> {
+    fn positions(self, count: usize) -> Range<usize> {
         let count = count as i64;
         let begin = if self.x > 0 {
             self.x - 1
@@ -100,25 +99,21 @@ pub fn shift(a: Operand, x: i32, room: &mut [i32]) -> Result<Working, u32> {
 pub fn renumber(a: Operand, x: i64, room: &mut [i32]) -> Result<Working, u32> {
     let cells = take(room, a.period() as i64)?;
     let stretch = Stretch::new(a, a.period());
-    let slots = Slots::new(&stretch);
-    let labels: Vec<i64> = (0..slots.count())
-        .map(|slot| i64::from(stretch.labels[slots.first(slot)]))
-        .collect();
-    let count = labels.len() as i64;
+    let slots = stretch.slots();
+    let count = slots.begins().len() as i64;
+    let label_at = |&begin: &u32| i64::from(stretch.labels[begin as usize]);
     // The slot with the least label not below x, all slots being numbered
     // through from the first that begins in the row.
-    let turn = (x - labels[0]).div_euclid(a.distance);
+    let turn = (x - label_at(&slots.begins()[0])).div_euclid(a.distance);
     let rest = x - turn * a.distance;
-    let one = turn * count + labels.partition_point(|&label| label < rest) as i64;
-    cells.fill(EMPTY);
-    for slot in 0..slots.count() {
-        let label = slot as i64 - one + 1;
-        let (now, later) = slots.instants(slot);
-        for (instants, label) in [(now, label), (later, label - count)] {
-            for &t in instants {
-                cells[t as usize] = cell_for(label)?;
-            }
-        }
+    let below = slots
+        .begins()
+        .partition_point(|begin| label_at(begin) < rest);
+    let one = turn * count + below as i64;
+    for (number, (now, later)) in (0..).zip(slots.ranges()) {
+        let label = number - one + 1;
+        write(label, &stretch, now, cells)?;
+        write(label - count, &stretch, later, cells)?;
     }
     Ok(Working {
         period: cells.len(),
@@ -141,12 +136,12 @@ pub fn alter(
 
     // Of the coarse slots that repeat every `rise` labels, those are altered
     // somewhere whose label has y's residue by every common divisor.
-    let rise = slots.sizes.len() as i64;
+    let rise = slots.count() as i64;
     let common = gcd(rise, x);
     let shortest = (slots.first_label..)
-        .zip(&slots.sizes)
+        .zip(0..slots.count())
         .filter(|&(label, _)| (label - y) % common == 0)
-        .map(|(_, &size)| i64::from(size) + z)
+        .map(|(_, place)| slots.size(place) + z)
         .min();
     if shortest.is_some_and(|size| size < 1) {
         return Err(10);
@@ -184,14 +179,12 @@ pub fn alter(
     })
 }
 
-/// The coarse operand's slots over a span, told in fine slots.
+/// The coarse operand's slots of one span, told in fine slots.
 struct CoarseSlots {
-    /// Label of the first slot that begins in the span; the others follow one by one.
+    /// Label of the first slot listed; the others follow one by one.
     first_label: i64,
-    /// The last fine label in that slot.
-    first_last: i64,
-    /// How many fine slots make up each slot.
-    sizes: Vec<u32>,
+    /// The last fine label in each slot.
+    lasts: Vec<i32>,
     /// How far the fine labels rise over the span.
     fine_rise: i64,
 }
@@ -199,70 +192,75 @@ struct CoarseSlots {
 impl CoarseSlots {
     /// Both operands are full. Refuses (9) if they aren't aligned.
     fn new(fine: &Stretch, coarse: &Stretch) -> Result<Self, u32> {
-        let same_instants = fine
-            .labels
-            .iter()
-            .zip(coarse.labels.iter())
-            .all(|(&fine, &coarse)| (fine == EMPTY) == (coarse == EMPTY));
-        if !same_instants {
+        let last = coarse.labels.iter().rposition(|&label| label != EMPTY);
+        let last = last.expect("a calendar has a label");
+        if fine.labels[last] == EMPTY {
             return Err(9);
         }
-        let slots = Slots::new(coarse);
-        let last_fine = |slot: usize| {
-            let (now, later) = slots.instants(slot);
-            match later.last() {
-                Some(&t) => fine.labels[t as usize] + fine.rise,
-                None => fine.labels[now[now.len() - 1] as usize],
-            }
-        };
-        // Labelling the same instants, a fine slot lies in one coarse slot
-        // exactly if it doesn't go on in the next one.
-        let mut sizes = Vec::with_capacity(slots.count());
-        let mut before = last_fine(slots.count() - 1) - fine.rise;
-        for slot in 0..slots.count() {
-            let first = fine.labels[slots.first(slot)];
-            if first == before {
+        let mut fine_before = fine.labels[last] - fine.rise;
+        let mut coarse_before = coarse.labels[last] - coarse.rise;
+        let first_label = i64::from(coarse_before);
+        let mut lasts = Vec::with_capacity(coarse.rise as usize);
+        for (&fine, &coarse) in fine.labels.iter().zip(coarse.labels.iter()) {
+            if (fine == EMPTY) != (coarse == EMPTY) {
                 return Err(9);
             }
-            before = last_fine(slot);
-            sizes.push((before - first + 1) as u32);
+            if coarse == EMPTY {
+                continue;
+            }
+            if coarse != coarse_before {
+                // A slot has ended, and the fine one must have ended with it.
+                if fine == fine_before {
+                    return Err(9);
+                }
+                lasts.push(fine_before);
+                coarse_before = coarse;
+            }
+            fine_before = fine;
         }
         Ok(CoarseSlots {
-            first_label: i64::from(coarse.labels[slots.first(0)]),
-            first_last: i64::from(last_fine(0)),
-            sizes,
+            first_label,
+            lasts,
             fine_rise: i64::from(fine.rise),
         })
+    }
+
+    fn count(&self) -> usize {
+        self.lasts.len()
+    }
+
+    /// How many fine slots make up the slot at a place of the list.
+    fn size(&self, place: usize) -> i64 {
+        let last = i64::from(self.lasts[place]);
+        match place.checked_sub(1) {
+            Some(before) => last - i64::from(self.lasts[before]),
+            None => last - i64::from(self.lasts[self.count() - 1]) + self.fine_rise,
+        }
     }
 
     /// The altered slot that holds the fine slot `own`. Refuses (11) if its
     /// label is too far out.
     fn altered_at(&self, own: i64, x: i64, y: i64, z: i64) -> Result<AlteredWalk<'_>, u32> {
-        let count = self.sizes.len();
-        let mut ends = vec![self.first_last];
-        ends.extend(self.sizes[1..].iter().scan(self.first_last, |end, &size| {
-            *end += i64::from(size);
-            Some(*end)
-        }));
+        let count = self.count() as i128;
+        let first_label = i128::from(self.first_label);
         // The last fine label of any altered slot. Labels far out come up
         // here: 128 bits hold them all.
         let last_of = |label: i128| {
-            let number = label - i128::from(self.first_label);
-            let turn = number.div_euclid(count as i128);
-            let place = number.rem_euclid(count as i128) as usize;
-            let altered_before = (label - i128::from(y)).div_euclid(i128::from(x)) + 1;
-            i128::from(ends[place])
+            let turn = (label - first_label).div_euclid(count);
+            let place = (label - first_label).rem_euclid(count) as usize;
+            let altered = (label - i128::from(y)).div_euclid(i128::from(x)) + 1;
+            i128::from(self.lasts[place])
                 + turn * i128::from(self.fine_rise)
-                + altered_before * i128::from(z)
+                + altered * i128::from(z)
         };
         // Each altered slot has at least one fine slot, so that the label
         // sought is no further off than the fine label.
         let own = i128::from(own);
-        let away = own - last_of(i128::from(self.first_label));
-        let mut low = i128::from(self.first_label) + away.min(0);
-        let mut high = i128::from(self.first_label) + away.max(0);
+        let away = own - last_of(first_label);
+        let mut low = first_label + away.min(0);
+        let mut high = first_label + away.max(0);
         while low < high {
-            let middle = low + (high - low).div_euclid(2);
+            let middle = low + (high - low) / 2;
             if last_of(middle) < own {
                 low = middle + 1;
             } else {
@@ -279,7 +277,7 @@ impl CoarseSlots {
             z,
             label,
             last: last_of(low) as i64,
-            place: (label - self.first_label).rem_euclid(count as i64) as usize,
+            place: (low - first_label).rem_euclid(count) as usize,
             residue: (label - y).rem_euclid(x),
         })
     }
@@ -294,7 +292,7 @@ struct AlteredWalk<'a> {
     label: i64,
     /// Its last fine label.
     last: i64,
-    /// The place of the coarse slot with that label in the list of sizes.
+    /// The place of the coarse slot with that label in the list.
     place: usize,
     /// label − y by x.
     residue: i64,
@@ -304,10 +302,10 @@ impl AlteredWalk<'_> {
     fn step(&mut self) {
         self.label += 1;
         self.place += 1;
-        if self.place == self.slots.sizes.len() {
+        if self.place == self.slots.count() {
             self.place = 0;
         }
-        self.last += i64::from(self.slots.sizes[self.place]);
+        self.last += self.slots.size(self.place);
         self.residue += 1;
         if self.residue == self.x {
             self.residue = 0;
@@ -319,11 +317,13 @@ impl AlteredWalk<'_> {
 pub fn combine(a: Operand, b: Operand, room: &mut [i32]) -> Result<Working, u32> {
     let cells = take_span(a, b, room)?;
     let outer = Stretch::new(a, cells.len());
-    let inner = Slots::new(&Stretch::new(b, cells.len()));
+    let inner = Stretch::new(b, cells.len());
     cells.fill(EMPTY);
-    for slot in 0..inner.count() {
-        if inner.holder(slot, &outer).is_some() {
-            copy(&outer, inner.instants(slot), cells);
+    for ranges in inner.slots().ranges() {
+        if let Some(label) = inner.holder(ranges.clone(), &outer) {
+            let (now, later) = ranges;
+            write(label.into(), &inner, now, cells)?;
+            write((label - outer.rise).into(), &inner, later, cells)?;
         }
     }
     Ok(over_span(&outer))
@@ -343,35 +343,31 @@ pub fn anchor(a: Operand, b: Operand, room: &mut [i32]) -> Result<Working, u32> 
         return Err(9);
     }
     // Labels being equal, each slot of a has to be b's slot or free of b.
-    let slots = Slots::new(&all);
-    let mut is_anchor = Vec::with_capacity(slots.count());
-    for slot in 0..slots.count() {
-        let (now, later) = slots.instants(slot);
-        let marked = some.labels[now[0] as usize] != EMPTY;
-        let alike = |&t: &u32| (some.labels[t as usize] != EMPTY) == marked;
-        if !now.iter().all(alike) || !later.iter().all(alike) {
-            return Err(9);
+    let slots = all.slots();
+    let is_anchor = |begin: usize| some.labels[begin] != EMPTY;
+    for (now, later) in slots.ranges() {
+        let marked = is_anchor(now.start);
+        for range in [now, later] {
+            let labels = all.labels[range.clone()].iter().zip(&some.labels[range]);
+            let mut labels = labels.filter(|(&all, _)| all != EMPTY);
+            if !labels.all(|(_, &some)| (some != EMPTY) == marked) {
+                return Err(9);
+            }
         }
-        is_anchor.push(marked);
     }
 
-    let last_anchor = is_anchor
+    let last_anchor = slots
+        .begins()
         .iter()
-        .rposition(|&marked| marked)
-        .expect("b has a labelled instant");
-    let mut label = all.labels[slots.first(last_anchor)] - all.rise;
-    cells.fill(EMPTY);
-    for (slot, marked) in is_anchor.into_iter().enumerate() {
-        if marked {
-            label = all.labels[slots.first(slot)];
+        .rfind(|&&begin| is_anchor(begin as usize));
+    let last_anchor = *last_anchor.expect("b has a label") as usize;
+    let mut label = i64::from(all.labels[last_anchor] - all.rise);
+    for (now, later) in slots.ranges() {
+        if is_anchor(now.start) {
+            label = i64::from(all.labels[now.start]);
         }
-        let (now, later) = slots.instants(slot);
-        for &t in now {
-            cells[t as usize] = label;
-        }
-        for &t in later {
-            cells[t as usize] = label - all.rise;
-        }
+        write(label, &all, now, cells)?;
+        write(label - i64::from(all.rise), &all, later, cells)?;
     }
     Ok(over_span(&all))
 }
@@ -380,58 +376,40 @@ pub fn select_down(a: Operand, b: Operand, pick: Pick, room: &mut [i32]) -> Resu
     let cells = take_span(a, b, room)?;
     let own = Stretch::new(a, cells.len());
     let other = Stretch::new(b, cells.len());
-    let slots = Slots::new(&own);
-    // The slots that lie inside one of b's, each with the label of that one.
-    let inside: Vec<(usize, i32)> = (0..slots.count())
-        .filter_map(|slot| Some((slot, slots.holder(slot, &other)?)))
-        .collect();
+    let slots = own.slots();
+    // The slots that lie inside one of b's, and the labels of these. Slots of
+    // a inside the same one are neighbours in this list, which again rises
+    // with each turn.
+    let mut inside = Vec::new();
+    let mut holders = Vec::new();
+    for (slot, ranges) in slots.ranges().enumerate() {
+        if let Some(holder) = own.holder(ranges, &other) {
+            inside.push(slot as u32);
+            holders.push(holder);
+        }
+    }
     cells.fill(EMPTY);
-    for (begin, length) in runs(&inside, other.rise) {
-        for position in pick.positions(length) {
-            let (slot, _) = inside[(begin + position) % inside.len()];
-            copy(&own, slots.instants(slot), cells);
+    for (now, later) in Slots::new(&holders, other.rise).ranges() {
+        for position in pick.positions(now.len() + later.len()) {
+            let place = (now.start + position) % inside.len();
+            keep(&own, slots.ranges_of(inside[place] as usize), cells);
         }
     }
     Ok(over_span(&own))
 }
 
-/// Where each run of equal labels begins and how long it is. The list goes on
-/// from its end to its beginning, with labels risen; each run is given once.
-fn runs(list: &[(usize, i32)], rise: i32) -> Vec<(usize, usize)> {
-    let Some(&(_, last)) = list.last() else {
-        return Vec::new();
-    };
-    let mut begins = Vec::new();
-    let mut before = last - rise;
-    for (place, &(_, label)) in list.iter().enumerate() {
-        if label != before {
-            begins.push(place);
-            before = label;
-        }
-    }
-    // The labels rise over a turn, so that at least one run begins in it.
-    let mut ends = begins[1..].to_vec();
-    ends.push(begins[0] + list.len());
-    begins
-        .into_iter()
-        .zip(ends)
-        .map(|(begin, end)| (begin, end - begin))
-        .collect()
-}
-
 pub fn select_up(a: Operand, b: Operand, room: &mut [i32]) -> Result<Working, u32> {
     let cells = take_span(a, b, room)?;
     let own = Stretch::new(a, cells.len());
-    let slots = Slots::new(&own);
-    let numbers = slots.numbers(cells.len());
-    let held = Slots::new(&Stretch::new(b, cells.len()));
-    let mut taken = vec![false; slots.count()];
-    for slot in 0..held.count() {
-        if held.holder(slot, &own).is_some() {
-            taken[numbers[held.first(slot)] as usize] = true;
+    let other = Stretch::new(b, cells.len());
+    cells.fill(EMPTY);
+    for ranges in other.slots().ranges() {
+        let begin = ranges.0.start;
+        if other.holder(ranges, &own).is_some() {
+            cells[begin] = MARK;
         }
     }
-    copy_taken(&own, &slots, &taken, cells);
+    keep_marked(&own, cells);
     Ok(over_span(&own))
 }
 
@@ -443,29 +421,30 @@ pub fn select_by_meeting(
 ) -> Result<Working, u32> {
     let cells = take_span(a, b, room)?;
     let own = Stretch::new(a, cells.len());
-    let slots = Slots::new(&own);
-    let numbers = slots.numbers(cells.len());
-    let meeting = Slots::new(&Stretch::new(b, cells.len()));
-    let mut taken = vec![false; slots.count()];
+    let other = Stretch::new(b, cells.len());
+    cells.fill(EMPTY);
+    // Of each slot of a that b's slot at hand meets, an instant.
     let mut met = Vec::new();
-    for slot in 0..meeting.count() {
+    for (now, later) in other.slots().ranges() {
         met.clear();
         let mut before = EMPTY;
-        let (now, later) = meeting.instants(slot);
-        for (instants, risen) in [(now, 0), (later, own.rise)] {
-            for &t in instants {
-                let label = raise(own.labels[t as usize], risen);
-                if label != EMPTY && label != before {
-                    met.push(numbers[t as usize]);
+        for (range, risen) in [(now, 0), (later, own.rise)] {
+            let labels = own.labels[range.clone()]
+                .iter()
+                .zip(&other.labels[range.clone()]);
+            for (t, (&own, &other)) in range.zip(labels) {
+                let label = raise(own, risen);
+                if label != EMPTY && label != before && other != EMPTY {
+                    met.push(t as u32);
                     before = label;
                 }
             }
         }
-        for &number in &met[pick.positions(met.len())] {
-            taken[number as usize] = true;
+        for &t in &met[pick.positions(met.len())] {
+            cells[t as usize] = MARK;
         }
     }
-    copy_taken(&own, &slots, &taken, cells);
+    keep_marked(&own, cells);
     Ok(over_span(&own))
 }
 
@@ -478,71 +457,88 @@ pub fn sets(a: Operand, b: Operand, which: Sets, room: &mut [i32]) -> Result<Wor
     if first.rise != second.rise {
         return Err(9);
     }
-    let mut labels = Vec::with_capacity(cells.len());
-    for (&first, &second) in first.labels.iter().zip(second.labels.iter()) {
+    // The labels of both together.
+    for (cell, (&first, &second)) in cells
+        .iter_mut()
+        .zip(first.labels.iter().zip(second.labels.iter()))
+    {
         if first != EMPTY && second != EMPTY && first != second {
             return Err(9);
         }
         // The empty mark is below every label.
-        labels.push(first.max(second));
+        *cell = first.max(second);
     }
-    let both = Stretch {
-        labels: Cow::Owned(labels),
-        rise: first.rise,
-    };
-    if !both.never_falls() {
+    if !never_fall(cells, first.rise) {
         return Err(9);
     }
-    let slots = Slots::new(&both);
-    let mut taken = Vec::with_capacity(slots.count());
-    for slot in 0..slots.count() {
-        let (now, later) = slots.instants(slot);
-        let length = now.len() + later.len();
-        let in_first = labelled(&first, now) + labelled(&first, later);
-        let in_second = labelled(&second, now) + labelled(&second, later);
+    for (now, later) in Slots::new(cells, first.rise).ranges() {
+        let labelled = |labels: &[i32]| {
+            let count = |range: Range<usize>| {
+                labels[range]
+                    .iter()
+                    .filter(|&&label| label != EMPTY)
+                    .count()
+            };
+            count(now.clone()) + count(later.clone())
+        };
+        let length = labelled(cells);
+        let in_first = labelled(&first.labels);
+        let in_second = labelled(&second.labels);
         let shared = in_first > 0 && in_second > 0;
         if shared && (in_first < length || in_second < length) {
             return Err(9);
         }
-        taken.push(match which {
+        let taken = match which {
             Sets::Union => true,
             Sets::Intersection => shared,
             Sets::Difference => in_second == 0,
-        });
+        };
+        if !taken {
+            cells[now].fill(EMPTY);
+            cells[later].fill(EMPTY);
+        }
     }
-    copy_taken(&both, &slots, &taken, cells);
-    Ok(over_span(&both))
+    Ok(over_span(&first))
 }
 
-fn labelled(stretch: &Stretch, instants: &[u32]) -> usize {
-    instants
-        .iter()
-        .filter(|&&t| stretch.labels[t as usize] != EMPTY)
-        .count()
-}
+/// What marks a slot to be kept: any label in the cell of one of its instants.
+const MARK: i32 = 0;
 
-fn over_span(stretch: &Stretch) -> Working {
-    Working {
-        period: stretch.span(),
-        distance: i64::from(stretch.rise),
-    }
-}
-
-/// Leaves in the cells the labels of the taken slots only.
-fn copy_taken(stretch: &Stretch, slots: &Slots, taken: &[bool], cells: &mut [i32]) {
-    cells.fill(EMPTY);
-    for (slot, &taken) in taken.iter().enumerate() {
-        if taken {
-            copy(stretch, slots.instants(slot), cells);
+/// Leaves in the cells the labels of those slots only that have a marked cell.
+fn keep_marked(stretch: &Stretch, cells: &mut [i32]) {
+    for (now, later) in stretch.slots().ranges() {
+        let marked = |cells: &[i32]| cells.iter().any(|&cell| cell != EMPTY);
+        if marked(&cells[now.clone()]) || marked(&cells[later.clone()]) {
+            keep(stretch, (now, later), cells);
         }
     }
 }
 
-/// Copies the labels of the instants; those of the next turn have the cells
-/// that are theirs in this one.
-fn copy(stretch: &Stretch, (now, later): (&[u32], &[u32]), cells: &mut [i32]) {
-    for &t in now.iter().chain(later) {
-        cells[t as usize] = stretch.labels[t as usize];
+/// Copies a slot's labels into the cells of its instants.
+fn keep(stretch: &Stretch, (now, later): Ranges, cells: &mut [i32]) {
+    for range in [now, later] {
+        cells[range.clone()].copy_from_slice(&stretch.labels[range]);
+    }
+}
+
+/// Writes a label to the cells of a range whose instants have one, and none to
+/// the others. Refuses (11) a label too far out.
+fn write(label: i64, stretch: &Stretch, range: Range<usize>, cells: &mut [i32]) -> Result<(), u32> {
+    let own = &stretch.labels[range.clone()];
+    for (cell, &own) in cells[range].iter_mut().zip(own) {
+        *cell = if own == EMPTY {
+            EMPTY
+        } else {
+            cell_for(label)?
+        };
+    }
+    Ok(())
+}
+
+fn over_span(stretch: &Stretch) -> Working {
+    Working {
+        period: stretch.labels.len(),
+        distance: i64::from(stretch.rise),
     }
 }
 
@@ -591,13 +587,5 @@ mod tests {
         assert!(picked(-8, 1, 7).is_empty());
         assert_eq!(picked(-1_000_000, 1_000_000, 7), 0..7);
         assert!(picked(1, 1, 0).is_empty());
-    }
-
-    #[test]
-    fn runs_go_on_at_the_beginning() {
-        let list = [(0, 0), (1, 1), (2, 1), (3, 1)];
-        assert_eq!(runs(&list, 1), [(1, 4)]);
-        assert_eq!(runs(&list, 2), [(0, 1), (1, 3)]);
-        assert_eq!(runs(&[], 1), []);
     }
 }

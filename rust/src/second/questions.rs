@@ -421,6 +421,8 @@ mod tests {
         parts = [9; 4];
         assert_eq!(down(WORKING_WEEK, B, 1, &mut parts), Err(17));
         assert_eq!(parts, [0; 4]);
+        // Nothing is inside.
+        assert_eq!(down(B, W, 1, &mut parts), Err(16));
         // 16 comes before 17, 15 before both, 14 before it, 13 first.
         assert_eq!(down(W, B, 1, &mut []), Err(16));
         assert_eq!(down(B, W, 6, &mut []), Err(15));

@@ -1,6 +1,7 @@
-//! A calendar over a span of instants, and the slots of it with their instants.
+//! A calendar over a span of instants, and where its slots begin.
 
 use std::borrow::Cow;
+use std::ops::Range;
 
 use super::EMPTY;
 
@@ -54,25 +55,21 @@ impl<'a> Stretch<'a> {
         }
     }
 
-    pub fn span(&self) -> usize {
-        self.labels.len()
+    pub fn slots(&self) -> Slots {
+        Slots::new(&self.labels, self.rise)
     }
 
-    /// Whether labels never fall, from the last of the span to the first of the
-    /// next turn either.
-    pub fn never_falls(&self) -> bool {
-        let mut labels = self.labels.iter().copied().filter(|&label| label != EMPTY);
-        let Some(first) = labels.next() else {
-            return true;
+    /// The label of the other calendar's slot that holds all of the slot with
+    /// these ranges.
+    pub fn holder(&self, (now, later): Ranges, other: &Stretch) -> Option<i32> {
+        let label = other.labels[now.start];
+        let all_in = |range: Range<usize>, label: i32| {
+            let own = self.labels[range.clone()].iter();
+            own.zip(&other.labels[range])
+                .all(|(&own, &others)| own == EMPTY || others == label)
         };
-        let mut last = first;
-        for label in labels {
-            if label < last {
-                return false;
-            }
-            last = label;
-        }
-        last <= first + self.rise
+        let held = label != EMPTY && all_in(now, label) && all_in(later, label - other.rise);
+        held.then_some(label)
     }
 }
 
@@ -85,92 +82,73 @@ pub fn raise(cell: i32, rise: i32) -> i32 {
     }
 }
 
-/// The slots of a stretch, numbered from 0, each with its instants.
+/// Whether labels that rise so far over a turn never fall, from the last of
+/// a turn to the first of the next either.
+pub fn never_fall(labels: &[i32], rise: i32) -> bool {
+    let mut labels = labels.iter().copied().filter(|&label| label != EMPTY);
+    let Some(first) = labels.next() else {
+        return true;
+    };
+    let mut last = first;
+    for label in labels {
+        if label < last {
+            return false;
+        }
+        last = label;
+    }
+    last <= first + rise
+}
+
+/// Instants of the span, and instants of the next turn less the span.
+pub type Ranges = (Range<usize>, Range<usize>);
+
+/// Where slots begin in a list of labels that never fall and rise with each
+/// turn: the labels of a span, or any others.
 ///
-/// Listed are the slots whose first instant lies in the span. Their labels
-/// never falling, the instants of each are neighbours among the labelled
-/// instants, and only the last slot may reach into the next turn.
+/// A slot's labelled instants are all those from its own beginning up to the
+/// next slot's. Only the last slot reaches into the next turn, up to where the
+/// first one begins.
 pub struct Slots {
-    /// The labelled instants of the span, rising.
-    open: Vec<u32>,
-    /// For each slot the place in `open` of its first instant; then, closing
-    /// the last slot, the place of the first slot a turn later.
     begins: Vec<u32>,
+    span: usize,
 }
 
 impl Slots {
-    pub fn new(stretch: &Stretch) -> Self {
-        let labels = &stretch.labels;
-        let mut open = Vec::with_capacity(labels.len());
-        open.extend((0..labels.len() as u32).filter(|&t| labels[t as usize] != EMPTY));
+    pub fn new(labels: &[i32], rise: i32) -> Self {
         let mut begins = Vec::new();
-        if let Some(&last) = open.last() {
-            let mut before = labels[last as usize] - stretch.rise;
-            for (place, &t) in open.iter().enumerate() {
-                let label = labels[t as usize];
-                if label != before {
-                    begins.push(place as u32);
+        if let Some(&last) = labels.iter().rfind(|&&label| label != EMPTY) {
+            let mut before = last - rise;
+            for (t, &label) in labels.iter().enumerate() {
+                if label != EMPTY && label != before {
+                    begins.push(t as u32);
                     before = label;
                 }
             }
-            // A turn raises the labels, so at least one slot begins in it.
-            begins.push(begins[0] + open.len() as u32);
         }
-        Slots { open, begins }
+        Slots {
+            begins,
+            span: labels.len(),
+        }
     }
 
-    /// How many slots begin in the span.
-    pub fn count(&self) -> usize {
-        self.begins.len().saturating_sub(1)
+    /// The first instants of the slots that begin in the span.
+    pub fn begins(&self) -> &[u32] {
+        &self.begins
     }
 
-    /// The instants of a slot: those in the span, and those of the next turn
-    /// less the span.
-    pub fn instants(&self, slot: usize) -> (&[u32], &[u32]) {
+    /// The ranges of all these slots. Together they are the span.
+    pub fn ranges(&self) -> impl Iterator<Item = Ranges> + '_ {
+        (0..self.begins.len()).map(|slot| self.ranges_of(slot))
+    }
+
+    /// The ranges in which one of these slots has its instants.
+    pub fn ranges_of(&self, slot: usize) -> Ranges {
         let begin = self.begins[slot] as usize;
-        let end = self.begins[slot + 1] as usize;
-        match end.checked_sub(self.open.len()) {
-            None => (&self.open[begin..end], &[]),
-            Some(later) => (&self.open[begin..], &self.open[..later]),
+        match self.begins.get(slot + 1) {
+            Some(&end) => (begin..end as usize, 0..0),
+            None => (begin..self.span, 0..self.begins[0] as usize),
         }
     }
-
-    /// The first instant of a slot.
-    pub fn first(&self, slot: usize) -> usize {
-        self.open[self.begins[slot] as usize] as usize
-    }
-
-    /// The label of the other calendar's slot that holds all of this slot.
-    pub fn holder(&self, slot: usize, other: &Stretch) -> Option<i32> {
-        let label = other.labels[self.first(slot)];
-        if label == EMPTY {
-            return None;
-        }
-        let (now, later) = self.instants(slot);
-        let held =
-            all_labelled(other, now, label) && all_labelled(other, later, label - other.rise);
-        held.then_some(label)
-    }
-
-    /// For each instant of the span the number of its slot, less the slots of
-    /// a turn where it belongs to the slot that reaches in from the turn before.
-    /// What stands at the other instants is of no use.
-    pub fn numbers(&self, span: usize) -> Vec<u32> {
-        let mut numbers = vec![u32::MAX; span];
-        for slot in 0..self.count() {
-            let (now, later) = self.instants(slot);
-            for &t in now.iter().chain(later) {
-                numbers[t as usize] = slot as u32;
-            }
-        }
-        numbers
-    }
-}
-
-fn all_labelled(stretch: &Stretch, instants: &[u32], label: i32) -> bool {
-    instants
-        .iter()
-        .all(|&t| stretch.labels[t as usize] == label)
 }
 
 #[cfg(test)]
@@ -190,14 +168,8 @@ mod tests {
             [0, 1, 1, 1, 1, 1, 1, 1, 2, 2, 2, 2, 2, 2]
         );
         assert_eq!(stretch.rise, 2);
-        let slots = Slots::new(&stretch);
-        assert_eq!(slots.count(), 2);
-        assert_eq!(slots.instants(0), (&[1, 2, 3, 4, 5, 6, 7][..], &[][..]));
-        assert_eq!(slots.instants(1), (&[8, 9, 10, 11, 12, 13][..], &[0][..]));
-        assert_eq!(
-            slots.numbers(14),
-            [1, 0, 0, 0, 0, 0, 0, 0, 1, 1, 1, 1, 1, 1]
-        );
+        let ranges: Vec<Ranges> = stretch.slots().ranges().collect();
+        assert_eq!(ranges, [(1..8, 0..0), (8..14, 0..1)]);
     }
 
     #[test]
@@ -206,17 +178,25 @@ mod tests {
             labels: Cow::Borrowed(&[EMPTY, 1, EMPTY, 1, EMPTY, 3]),
             rise: 3,
         };
-        let slots = Slots::new(&odd);
-        assert_eq!(slots.count(), 2);
-        assert_eq!(slots.instants(0), (&[1, 3][..], &[][..]));
-        assert_eq!(slots.instants(1), (&[5][..], &[][..]));
+        let slots = odd.slots();
+        assert_eq!(slots.begins(), [1, 5]);
         let whole = Stretch {
             labels: Cow::Borrowed(&[5, 5, 5, 5, 5, 6]),
             rise: 3,
         };
-        assert_eq!(slots.holder(0, &whole), Some(5));
-        assert_eq!(slots.holder(1, &whole), Some(6));
-        assert_eq!(slots.holder(1, &odd), Some(3));
-        assert_eq!(Slots::new(&whole).holder(0, &odd), None);
+        assert_eq!(odd.holder(slots.ranges_of(0), &whole), Some(5));
+        assert_eq!(odd.holder(slots.ranges_of(1), &whole), Some(6));
+        assert_eq!(odd.holder(slots.ranges_of(1), &odd), Some(3));
+        let slots = whole.slots();
+        assert_eq!(whole.holder(slots.ranges_of(0), &odd), None);
+        assert!(Slots::new(&[EMPTY], 1).ranges().next().is_none());
+    }
+
+    #[test]
+    fn falling_is_seen_at_the_turn_too() {
+        assert!(never_fall(&[1, EMPTY, 1, 3], 2));
+        assert!(!never_fall(&[1, EMPTY, 1, 4], 2));
+        assert!(!never_fall(&[1, EMPTY, 0, 3], 9));
+        assert!(never_fall(&[EMPTY], 1));
     }
 }
