@@ -1,8 +1,8 @@
 //! The kinds of entries. Each function makes the working row of one entry at
 //! the beginning of the room and returns its period and distance, or refuses
-//! in the order 7, 8 for the span, 9, 10, 8 for the working period. Refusals
-//! 12 and 11 are judged on the finished row, except where a label wouldn't
-//! even fit a cell.
+//! in the order 7, 8 for the span, 9, 10, 8 for the working period. Refusal 12
+//! is judged on the finished row, 11 there or where a label is written: no row
+//! calls for both.
 
 use std::ops::{Range, RangeInclusive};
 
@@ -17,7 +17,7 @@ pub struct Working {
 }
 
 /// Which labels kinds 9 to 11 keep.
-#[derive(Clone, Copy, PartialEq)]
+#[derive(Clone, Copy)]
 pub enum Sets {
     Union,
     Intersection,

@@ -1,10 +1,10 @@
 //! The second implementation of document 01.
 //!
-//! It shares no code and no algorithm with the proved core: a kind that looks
-//! at slots first lists the slots of one span with their instants, and works
-//! on these lists. Scratch memory is taken freely; time is linear in the span
-//! and the working period, apart from the few prime factors tried for the
-//! least form.
+//! It is written from the paper alone and shares nothing with the proved core:
+//! a kind that looks at slots writes its operands out over the span, lists
+//! where their slots begin, and works on these lists. Scratch memory is taken
+//! freely; time is linear in the span and the working period, apart from the
+//! few prime factors tried for the least form.
 
 mod conversion;
 mod kinds;
