@@ -1,0 +1,290 @@
+//! How long conversion takes: the proved core beside the second implementation.
+
+use jogipahn_compare::core;
+use jogipahn_compare::second::{self, CELL_LIMIT, EMPTY};
+use jogipahn_compare::timing::{best_of, readable};
+
+const REPETITIONS: usize = 11;
+
+type Entry = [i32; 6];
+
+const BOTTOM: Entry = [0; 6];
+
+fn group(a: i32, x: i32) -> Entry {
+    [1, a, 0, x, 0, 0]
+}
+
+/// A calendar over bottom of period p, made from the given group of g by
+/// making its slots of g instants longer now and then.
+fn uneven(group: i32, g: i32, p: i32) -> Entry {
+    [3, 0, group, p / g, 1, p % g]
+}
+
+/// All days but the first of each slot of b.
+fn but_first(b: i32) -> Entry {
+    [6, 0, b, 2, 1_000_000, 0]
+}
+
+struct Times {
+    cells: f64,
+    core: f64,
+    second: f64,
+}
+
+/// The shortest pool in which the table's answer is that of the longest.
+fn least_pool(table: &[i32]) -> usize {
+    let mut headings = vec![0; table.len() / 2];
+    let mut pool = vec![EMPTY; CELL_LIMIT];
+    let answer = second::convert(table, &mut headings, &mut pool);
+    let (mut low, mut high) = (0, CELL_LIMIT);
+    if answer.is_err() {
+        return high;
+    }
+    while low < high {
+        let middle = (low + high) / 2;
+        if second::convert(table, &mut headings, &mut pool[..middle]) == answer {
+            high = middle;
+        } else {
+            low = middle + 1;
+        }
+    }
+    high
+}
+
+/// Converts the table on both sides, in a pool just long enough.
+fn measure(name: &str, entries: &[Entry]) -> Times {
+    let pool = least_pool(entries.as_flattened());
+    measure_in(name, entries, pool)
+}
+
+fn measure_in(name: &str, entries: &[Entry], cells: usize) -> Times {
+    let table = entries.as_flattened();
+    let mut headings = vec![0; table.len() / 2];
+    let mut pool = vec![EMPTY; cells];
+    let mut expected_headings = headings.clone();
+    let mut expected_pool = pool.clone();
+    let answer = core::convert(table, &mut headings, &mut pool);
+    assert_eq!(
+        answer,
+        second::convert(table, &mut expected_headings, &mut expected_pool)
+    );
+    assert!(
+        headings == expected_headings && pool == expected_pool,
+        "{name}: lists differ"
+    );
+    let (core, second) = best_of(
+        REPETITIONS,
+        || {
+            std::hint::black_box(core::convert(table, &mut headings, &mut pool)).ok();
+        },
+        || {
+            std::hint::black_box(second::convert(
+                table,
+                &mut expected_headings,
+                &mut expected_pool,
+            ))
+            .ok();
+        },
+    );
+    let told = match answer {
+        Ok(()) => format!("last row {:>9}", headings[headings.len() - 2]),
+        Err((number, entry)) => format!("refused {number} at {entry:<5}"),
+    };
+    println!(
+        "{name:<52} pool {cells:>9}   {told}   core {:>10}   second {:>10}   core/second {:.2}",
+        readable(core),
+        readable(second),
+        core / second
+    );
+    Times {
+        cells: cells as f64,
+        core,
+        second,
+    }
+}
+
+/// Months and years by grouping 31 days and altering, as in source 000.
+fn civil(by_the_hour: bool, years: i32) -> Vec<Entry> {
+    let mut entries = vec![BOTTOM];
+    if by_the_hour {
+        entries.push(group(0, 24));
+    }
+    let day = entries.len() as i32 - 1;
+    entries.push(group(day, 31));
+    let mut alter = |x, y, z| {
+        let months = entries.len() as i32 - 1;
+        entries.push([3, day, months, x, y, z]);
+    };
+    alter(12, 2, -3);
+    for month in [4, 6, 9, 11] {
+        alter(12, month, -1);
+    }
+    // Year 1 is one after a multiple of 400.
+    for (cycle, z) in [(4, 1), (100, -1), (400, 1)] {
+        if years >= cycle {
+            alter(12 * cycle, 12 * cycle - 10, z);
+        }
+    }
+    let months = entries.len() as i32 - 1;
+    entries.push(group(months, 12));
+    entries
+}
+
+/// A table for each kind. With the factors 1019 and 1021 the last working row
+/// has about a million cells; kinds marked * keep a long operand in the pool,
+/// so that theirs is about half as long.
+fn each_kind(
+    p: i32,
+    q: i32,
+    half_p: i32,
+    half_q: i32,
+    altered: i32,
+) -> Vec<(&'static str, Vec<Entry>)> {
+    // Entries 2 and 4 have periods p and q, and short slots.
+    let short = [
+        BOTTOM,
+        group(0, 7),
+        uneven(1, 7, p),
+        group(0, 3),
+        uneven(3, 3, q),
+    ];
+    let with = |entry: Entry| [&short[..], &[entry]].concat();
+    // Entry 3 is long and full.
+    let long = [BOTTOM, group(0, 7), uneven(1, 7, half_p), group(2, half_q)];
+    let with_long = |entry: Entry| [&long[..], &[entry]].concat();
+    // Entries 2 and 4 are days of one stock.
+    let kin = |p, q| [BOTTOM, group(0, p), but_first(1), group(0, q), but_first(3)];
+    let with_kin = |entry: Entry| [&kin(p, q)[..], &[entry]].concat();
+    vec![
+        ("0 bottom, clearing the pool", vec![BOTTOM]),
+        ("1 group", [&short[..3], &[group(2, q)]].concat()),
+        ("2 shift *, with its operand", with_long([2, 3, 0, 5, 0, 0])),
+        (
+            "3 alter",
+            vec![BOTTOM, group(0, 7), [3, 0, 1, altered, 2, 4]],
+        ),
+        ("4 combine", with([4, 2, 4, 0, 0, 0])),
+        (
+            "5 anchor *, with its operand",
+            [
+                &kin(half_p, half_q)[..],
+                &[[10, 2, 4, 0, 0, 0], [5, 0, 5, 0, 0, 0]],
+            ]
+            .concat(),
+        ),
+        ("6 select-down", with([6, 4, 2, 1, 1, 0])),
+        ("7 select-up", with([7, 2, 4, 0, 0, 0])),
+        ("8 select-by-meeting", with([8, 4, 2, -1, 1, 0])),
+        ("9 union", with_kin([9, 2, 4, 0, 0, 0])),
+        ("10 intersection", with_kin([10, 2, 4, 0, 0, 0])),
+        ("11 difference", with_kin([11, 2, 4, 0, 0, 0])),
+        (
+            "12 renumber *, with its operand",
+            with_long([12, 3, 0, 5, 0, 0]),
+        ),
+    ]
+}
+
+fn main() {
+    println!(
+        "Best of {REPETITIONS}. Both sides convert the same table into lists of their own, which"
+    );
+    println!("aren't cleared between runs on either side; each run writes every cell and heading.");
+
+    println!("\nCivil calendars with months and years");
+    for (name, by_the_hour, years) in [
+        ("1 year by the day", false, 1),
+        ("4 years by the day", false, 4),
+        ("1 year by the hour", true, 1),
+        ("4 years by the hour", true, 4),
+        ("100 years by the day", false, 100),
+        ("400 years by the day", false, 400),
+    ] {
+        measure(name, &civil(by_the_hour, years));
+    }
+
+    println!("\nEach kind (* a long operand stands in the pool too, and rows are half as long)");
+    let small = each_kind(359, 367, 181, 359, 18_700);
+    let large = each_kind(1019, 1021, 509, 1013, 149_000);
+    for ((name, small), (_, large)) in small.iter().zip(&large) {
+        let (small, large) = if small.len() == 1 {
+            (
+                measure_in(name, small, 1 << 17),
+                measure_in(name, large, 1 << 20),
+            )
+        } else {
+            (measure(name, small), measure(name, large))
+        };
+        println!(
+            "{:<52} grows by the factor   cells {:.1}   core {:.1}   second {:.1}",
+            "",
+            large.cells / small.cells,
+            large.core / small.core,
+            large.second / small.second
+        );
+    }
+
+    println!("\nWorst cases (the pool holds no more than two rows of 524,288 cells)");
+    let half = group(0, 520_000);
+    measure(
+        "a slot of 520,000 instants combined with itself",
+        &[BOTTOM, half, [4, 1, 1, 0, 0, 0]],
+    );
+    measure(
+        "instants combined into a slot of 520,000",
+        &[BOTTOM, half, [4, 1, 0, 0, 0, 0]],
+    );
+    measure(
+        "a slot of 520,000 anchored at itself",
+        &[BOTTOM, half, [5, 1, 1, 0, 0, 0]],
+    );
+    measure(
+        "select-down, the first of 520,000",
+        &[BOTTOM, half, [6, 0, 1, 1, 1, 0]],
+    );
+    measure(
+        "select-down, the last 519,999 of 520,000",
+        &[BOTTOM, half, [6, 0, 1, -519_999, 1_000_000, 0]],
+    );
+    measure(
+        "select-down, long slots by themselves",
+        &[BOTTOM, half, [6, 1, 1, 1, 1, 0]],
+    );
+    measure(
+        "select-up, a slot of 520,000 by instants",
+        &[BOTTOM, half, [7, 1, 0, 0, 0, 0]],
+    );
+    measure(
+        "select-by-meeting, instants by a slot of 520,000",
+        &[BOTTOM, half, [8, 0, 1, -1, 1, 0]],
+    );
+    measure(
+        "select-by-meeting, a slot of 520,000 by instants",
+        &[BOTTOM, half, [8, 1, 0, 1, 1, 0]],
+    );
+    measure(
+        "union of long slots with themselves",
+        &[BOTTOM, half, [9, 1, 1, 0, 0, 0]],
+    );
+    // 500,001 coarse slots a turn and x = 1,000,000: lcm 500,001,000,000.
+    let coarse = [3, 0, 0, 500_001, 1, 1];
+    measure(
+        "alter, lcm(A, x) = 500,001,000,000, too long",
+        &[BOTTOM, coarse, [3, 0, 1, 1_000_000, 1, 1]],
+    );
+    measure(
+        "alter, the same, by too much",
+        &[BOTTOM, coarse, [3, 0, 1, 1_000_000, 1, -1]],
+    );
+    measure(
+        "alter back to bottom",
+        &[BOTTOM, coarse, [3, 0, 1, 500_001, 1, -1]],
+    );
+    // 262,080 has very many divisors.
+    let first = [6, 0, 1, 1, 1, 0];
+    let rest = [6, 0, 1, 2, 1_000_000, 0];
+    measure(
+        "union shortened from 262,080 cells to 1",
+        &[BOTTOM, group(0, 262_080), first, rest, [9, 2, 3, 0, 0, 0]],
+    );
+}

@@ -1,0 +1,245 @@
+//! The proved core, called through its C functions.
+//!
+//! The wrappers have the signatures of [`second`](crate::second)'s functions.
+//! They hand over dirty memory where the core has to write, and stop the
+//! program where an answer has no meaning.
+
+#[cfg(feature = "conversion")]
+pub use conversion::convert;
+#[cfg(feature = "questions")]
+pub use questions::{down, figures, may_be_late, may_be_late_by, up_granule, up_instant};
+
+#[cfg(feature = "questions")]
+mod questions {
+    use crate::second::questions::{Allowance, Row};
+
+    extern "C" {
+        fn jogipahn_up_instant(
+            cells: *const i32,
+            len: usize,
+            period: i64,
+            distance: i64,
+            t: i64,
+            label: *mut i64,
+        ) -> i64;
+
+        fn jogipahn_up_granule(
+            g_cells: *const i32,
+            g_len: usize,
+            g_period: i64,
+            g_distance: i64,
+            h_cells: *const i32,
+            h_len: usize,
+            h_period: i64,
+            h_distance: i64,
+            z: i64,
+            label: *mut i64,
+        ) -> i64;
+
+        fn jogipahn_down(
+            h_cells: *const i32,
+            h_len: usize,
+            h_period: i64,
+            h_distance: i64,
+            g_cells: *const i32,
+            g_len: usize,
+            g_period: i64,
+            g_distance: i64,
+            z: i64,
+            parts: *mut i64,
+            parts_len: usize,
+        ) -> i64;
+
+        fn jogipahn_figures(
+            cells: *const i32,
+            len: usize,
+            period: i64,
+            distance: i64,
+            openness: *mut f64,
+            length: *mut f64,
+            spacing: *mut f64,
+        ) -> i64;
+
+        fn jogipahn_may_be_late(
+            cells: *const i32,
+            len: usize,
+            period: i64,
+            distance: i64,
+            z: i64,
+            d: i64,
+            rule: i64,
+            amount: f64,
+        ) -> i64;
+    }
+
+    /// What the core shouldn't leave standing.
+    const DIRT: i64 = 0x5EED_5EED_5EED;
+
+    pub fn up_instant(row: Row, t: i64) -> Result<Option<i64>, u32> {
+        let mut label = DIRT;
+        // SAFETY: the row's cells are borrowed, and the label is written to a
+        // number of this function.
+        let answer = unsafe {
+            jogipahn_up_instant(
+                row.cells.as_ptr(),
+                row.cells.len(),
+                row.period,
+                row.distance,
+                t,
+                &mut label,
+            )
+        };
+        label_answer(answer, label)
+    }
+
+    pub fn up_granule(g: Row, h: Row, z: i64) -> Result<Option<i64>, u32> {
+        let mut label = DIRT;
+        // SAFETY: as above, for two rows.
+        let answer = unsafe {
+            jogipahn_up_granule(
+                g.cells.as_ptr(),
+                g.cells.len(),
+                g.period,
+                g.distance,
+                h.cells.as_ptr(),
+                h.cells.len(),
+                h.period,
+                h.distance,
+                z,
+                &mut label,
+            )
+        };
+        label_answer(answer, label)
+    }
+
+    pub fn down(h: Row, g: Row, z: i64, parts: &mut [i64]) -> Result<usize, u32> {
+        // SAFETY: both rows are borrowed, and the list of parts is lent with
+        // its length.
+        let answer = unsafe {
+            jogipahn_down(
+                h.cells.as_ptr(),
+                h.cells.len(),
+                h.period,
+                h.distance,
+                g.cells.as_ptr(),
+                g.cells.len(),
+                g.period,
+                g.distance,
+                z,
+                parts.as_mut_ptr(),
+                parts.len(),
+            )
+        };
+        match usize::try_from(answer) {
+            Ok(count) => Ok(count),
+            Err(_) => Err(refusal(answer)),
+        }
+    }
+
+    pub fn figures(row: Row) -> Result<(f64, f64, f64), u32> {
+        let (mut openness, mut length, mut spacing) = (f64::NAN, f64::NAN, f64::NAN);
+        // SAFETY: the row's cells are borrowed, and the figures are written to
+        // numbers of this function.
+        let answer = unsafe {
+            jogipahn_figures(
+                row.cells.as_ptr(),
+                row.cells.len(),
+                row.period,
+                row.distance,
+                &mut openness,
+                &mut length,
+                &mut spacing,
+            )
+        };
+        match answer {
+            0 => Ok((openness, length, spacing)),
+            _ => Err(refusal(answer)),
+        }
+    }
+
+    pub fn may_be_late(row: Row, z: i64, d: i64, rule: Allowance) -> Result<bool, u32> {
+        match rule {
+            Allowance::Fixed(instants) => may_be_late_by(row, z, d, 0, instants),
+            Allowance::Share(share) => may_be_late_by(row, z, d, 1, share),
+        }
+    }
+
+    /// As [`may_be_late`], the rule being any number.
+    pub fn may_be_late_by(row: Row, z: i64, d: i64, rule: i64, amount: f64) -> Result<bool, u32> {
+        // SAFETY: the row's cells are borrowed.
+        let answer = unsafe {
+            jogipahn_may_be_late(
+                row.cells.as_ptr(),
+                row.cells.len(),
+                row.period,
+                row.distance,
+                z,
+                d,
+                rule,
+                amount,
+            )
+        };
+        match answer {
+            1 => Ok(true),
+            0 => Ok(false),
+            _ => Err(refusal(answer)),
+        }
+    }
+
+    /// A label stands beside the answer 1 only, else there is 0.
+    fn label_answer(answer: i64, label: i64) -> Result<Option<i64>, u32> {
+        if answer == 1 {
+            return Ok(Some(label));
+        }
+        assert_eq!(label, 0, "a label beside the answer {answer}");
+        match answer {
+            0 => Ok(None),
+            _ => Err(refusal(answer)),
+        }
+    }
+
+    fn refusal(answer: i64) -> u32 {
+        match answer {
+            -18..=-13 => -answer as u32,
+            _ => panic!("the core answered {answer}, which means nothing"),
+        }
+    }
+}
+
+#[cfg(feature = "conversion")]
+mod conversion {
+    extern "C" {
+        fn jogipahn_convert(
+            table: *const i32,
+            n: usize,
+            headings: *mut u32,
+            m: usize,
+            pool: *mut i32,
+            p: usize,
+        ) -> i64;
+    }
+
+    pub fn convert(
+        table: &[i32],
+        headings: &mut [u32],
+        pool: &mut [i32],
+    ) -> Result<(), (u32, u32)> {
+        // SAFETY: the table is borrowed, and both lists are lent with their
+        // lengths.
+        let answer = unsafe {
+            jogipahn_convert(
+                table.as_ptr(),
+                table.len(),
+                headings.as_mut_ptr(),
+                headings.len(),
+                pool.as_mut_ptr(),
+                pool.len(),
+            )
+        };
+        match answer {
+            0 => Ok(()),
+            100..=1299 => Err((answer as u32 / 100, answer as u32 % 100)),
+            _ => panic!("the core answered {answer}, which means nothing"),
+        }
+    }
+}

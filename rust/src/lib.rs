@@ -1,0 +1,25 @@
+//! A second, independent implementation of the calendar core, and the means to
+//! compare the proved one with it.
+//!
+//! - [`second`] is the second implementation, written from document 01 alone.
+//! - [`core`] wraps the C functions of the proved core in the same signatures.
+//! - [`random`], [`tables`] and [`rows`] make random numbers, tables, and rows with
+//!   questions to them, all from a seed.
+//! - [`timing`] measures both sides.
+//!
+//! `cargo test --release` runs everything that needs no core. With the core's
+//! archive in `../target/staticlib/libc_api.a`:
+//!
+//! ```text
+//! cargo test --release --features questions  --test questions  -- --nocapture
+//! cargo test --release --features conversion --test conversion -- --nocapture
+//! cargo run  --release --features questions  --bin bench_questions
+//! cargo run  --release --features conversion --bin bench_conversion
+//! ```
+
+pub mod core;
+pub mod random;
+pub mod rows;
+pub mod second;
+pub mod tables;
+pub mod timing;

@@ -1,0 +1,223 @@
+//! The second implementation's answers against document 01's words taken one
+//! by one, for short rows.
+
+// The limits stand here as in the paper.
+#![allow(clippy::manual_range_contains)]
+
+use jogipahn_compare::random::Random;
+use jogipahn_compare::rows::{damage, question, whole_rows, OwnRow, Question, DAMAGES};
+use jogipahn_compare::second::questions::{self, Allowance};
+use jogipahn_compare::second::EMPTY;
+
+const LIMIT: i64 = 1_000_000_000;
+
+fn refuse_if(condition: bool, number: u32) -> Result<(), u32> {
+    if condition {
+        Err(number)
+    } else {
+        Ok(())
+    }
+}
+
+/// Rule 13.
+fn test_row(row: &OwnRow) -> Result<(), u32> {
+    let (period, distance) = (row.period, row.distance);
+    refuse_if(row.cells.len() as i64 != period, 13)?;
+    refuse_if(
+        !(1 <= distance && distance <= period && period <= 1_048_576),
+        13,
+    )?;
+    let labels: Vec<i64> = row
+        .cells
+        .iter()
+        .filter(|&&cell| cell != EMPTY)
+        .map(|&cell| cell.into())
+        .collect();
+    refuse_if(labels.iter().any(|label| label.abs() > LIMIT), 13)?;
+    refuse_if(labels.is_empty(), 13)?;
+    let two_turns: Vec<i64> = labels
+        .iter()
+        .copied()
+        .chain(labels.iter().map(|label| label + distance))
+        .collect();
+    refuse_if(!two_turns.is_sorted(), 13)
+}
+
+fn label(row: &OwnRow, t: i64) -> Option<i64> {
+    let cell = row.cells[t.rem_euclid(row.period) as usize];
+    (cell != EMPTY).then(|| i64::from(cell) + row.distance * t.div_euclid(row.period))
+}
+
+/// All instants with that label.
+fn slot(row: &OwnRow, label_wanted: i64) -> Vec<i64> {
+    let some = row
+        .cells
+        .iter()
+        .find(|&&cell| cell != EMPTY)
+        .copied()
+        .unwrap();
+    let turn = (label_wanted - i64::from(some)).div_euclid(row.distance);
+    let near = (turn - 2) * row.period..(turn + 3) * row.period;
+    near.filter(|&t| label(row, t) == Some(label_wanted))
+        .collect()
+}
+
+fn slot_asked(row: &OwnRow, z: i64) -> Result<Vec<i64>, u32> {
+    let instants = slot(row, z);
+    refuse_if(instants.is_empty(), 15)?;
+    Ok(instants)
+}
+
+fn up_instant(row: &OwnRow, t: i64) -> Result<Option<i64>, u32> {
+    test_row(row)?;
+    refuse_if(!(-LIMIT <= t && t <= LIMIT), 14)?;
+    Ok(label(row, t))
+}
+
+fn up_granule(g: &OwnRow, h: &OwnRow, z: i64) -> Result<Option<i64>, u32> {
+    test_row(g)?;
+    test_row(h)?;
+    refuse_if(!(-LIMIT <= z && z <= LIMIT), 14)?;
+    let instants = slot_asked(g, z)?;
+    let holder = label(h, instants[0]);
+    let held = instants.iter().all(|&t| label(h, t) == holder);
+    Ok(if held { holder } else { None })
+}
+
+fn down(h: &OwnRow, g: &OwnRow, z: i64, most: usize) -> Result<Vec<i64>, u32> {
+    test_row(h)?;
+    test_row(g)?;
+    refuse_if(!(-LIMIT <= z && z <= LIMIT), 14)?;
+    let instants = slot_asked(h, z)?;
+    let mut parts: Vec<i64> = instants.iter().filter_map(|&t| label(g, t)).collect();
+    parts.sort();
+    parts.dedup();
+    parts.retain(|&part| slot(g, part).iter().all(|t| instants.contains(t)));
+    let mut made_up: Vec<i64> = parts.iter().flat_map(|&part| slot(g, part)).collect();
+    made_up.sort();
+    refuse_if(made_up != instants, 16)?;
+    refuse_if(parts.len() > most, 17)?;
+    Ok(parts)
+}
+
+fn may_be_late(row: &OwnRow, z: i64, d: i64, rule: Allowance) -> Result<bool, u32> {
+    test_row(row)?;
+    refuse_if(!(-LIMIT <= z && z <= LIMIT), 14)?;
+    refuse_if(!(0 <= d && d <= 1_048_576), 14)?;
+    let shares: Vec<f64> = (0..=256).map(|share| f64::from(share) / 256.0).collect();
+    match rule {
+        Allowance::Fixed(amount) => refuse_if(!(amount.is_finite() && amount >= 0.0), 18)?,
+        Allowance::Share(amount) => refuse_if(!shares.contains(&amount), 18)?,
+    }
+    let instants = slot_asked(row, z)?;
+    let length = instants[instants.len() - 1] - instants[0] + 1;
+    let most = match rule {
+        Allowance::Fixed(amount) => amount,
+        Allowance::Share(amount) => amount * length as f64,
+    };
+    Ok(d as f64 <= most)
+}
+
+fn figures(row: &OwnRow) -> Result<(f64, f64, f64), u32> {
+    test_row(row)?;
+    let open = row.cells.iter().filter(|&&cell| cell != EMPTY).count() as f64;
+    let any: i64 = row
+        .cells
+        .iter()
+        .find(|&&cell| cell != EMPTY)
+        .copied()
+        .unwrap()
+        .into();
+    let slots = (any..any + row.distance)
+        .filter(|&label| !slot(row, label).is_empty())
+        .count() as f64;
+    let period = row.period as f64;
+    Ok((open / period, open / slots, period / slots))
+}
+
+#[test]
+fn questions_are_answered_as_the_words_say() {
+    let mut answered = 0;
+    let mut refused = [0; 19];
+    for seed in 0..20_000 {
+        let mut random = Random::new(0xA5C_0000 + seed);
+        let rows = whole_rows(&mut random, false);
+        for _ in 0..8 {
+            let mut first = rows[random.below(rows.len())].clone();
+            let mut second = rows[if random.percent(30) {
+                0
+            } else {
+                random.below(rows.len())
+            }]
+            .clone();
+            if first.cells.len().max(second.cells.len()) > 120 {
+                continue;
+            }
+            if random.percent(5) {
+                let row = if random.percent(70) {
+                    &mut first
+                } else {
+                    &mut second
+                };
+                let way = random.below(DAMAGES.len());
+                damage(row, way, &mut random);
+            }
+            let question = question(&mut random, &first);
+            match compare(&question, &first, &second) {
+                None => answered += 1,
+                Some(number) => refused[number as usize] += 1,
+            }
+        }
+    }
+    println!(
+        "{answered} questions answered, refused by number from 13: {:?}",
+        &refused[13..]
+    );
+    assert!(refused[13..].iter().all(|&count| count >= 200));
+}
+
+/// Compares the answers; the refusal, if they are one.
+fn compare(question: &Question, first: &OwnRow, second: &OwnRow) -> Option<u32> {
+    let (one, two) = (first.row(), second.row());
+    match *question {
+        Question::UpInstant(t) => {
+            let answer = questions::up_instant(one, t);
+            assert_eq!(answer, up_instant(first, t), "{question:?} {first:?}");
+            answer.err()
+        }
+        Question::UpGranule(z) => {
+            let answer = questions::up_granule(one, two, z);
+            assert_eq!(
+                answer,
+                up_granule(first, second, z),
+                "{question:?} {first:?} {second:?}"
+            );
+            answer.err()
+        }
+        Question::Down(z, most) => {
+            let mut list = vec![-7; most];
+            let answer = questions::down(one, two, z, &mut list);
+            let expected = down(first, second, z, most);
+            let count = expected.as_ref().map(Vec::len).map_err(|&number| number);
+            assert_eq!(answer, count, "{question:?} {first:?} {second:?}");
+            let mut expected_list = expected.unwrap_or_default();
+            expected_list.resize(most, 0);
+            assert_eq!(list, expected_list, "{question:?} {first:?} {second:?}");
+            answer.err()
+        }
+        Question::Figures => {
+            let answer = questions::figures(one);
+            assert_eq!(answer, figures(first), "{first:?}");
+            answer.err()
+        }
+        Question::MayBeLate(z, d, rule) => {
+            let answer = questions::may_be_late(one, z, d, rule);
+            assert_eq!(
+                answer,
+                may_be_late(first, z, d, rule),
+                "{question:?} {first:?}"
+            );
+            answer.err()
+        }
+    }
+}

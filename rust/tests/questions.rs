@@ -1,0 +1,178 @@
+//! Questions to rows: the proved core against the second implementation.
+
+use std::collections::BTreeMap;
+
+use jogipahn_compare::core;
+use jogipahn_compare::random::Random;
+use jogipahn_compare::rows::{damage, question, whole_rows, OwnRow, Question, DAMAGES};
+use jogipahn_compare::second::questions as second;
+
+/// At least so many questions are put to both.
+const QUESTIONS: u64 = 240_000;
+
+#[test]
+fn questions_are_answered_alike() {
+    let mut answers: BTreeMap<String, u64> = BTreeMap::new();
+    let mut asked = 0;
+    let mut long_questions = 0;
+    let mut longest = 0;
+    for seed in 0.. {
+        if asked >= QUESTIONS {
+            break;
+        }
+        let mut random = Random::new(seed);
+        let long = random.below(250) == 0;
+        let rows = whole_rows(&mut random, long);
+        for _ in 0..12 {
+            let first = &rows[random.below(rows.len())];
+            let second = &rows[if random.percent(30) {
+                0
+            } else {
+                random.below(rows.len())
+            }];
+            let question = question(&mut random, first);
+            *answers
+                .entry(compare(&question, first, second))
+                .or_default() += 1;
+            asked += 1;
+            long_questions += u64::from(first.cells.len().max(second.cells.len()) >= 100_000);
+            longest = longest.max(first.cells.len());
+        }
+        if random.percent(40) {
+            if let Some(answer) = compare_damaged(&mut random, &rows) {
+                *answers.entry(answer).or_default() += 1;
+                asked += 1;
+            }
+        }
+    }
+    println!("{asked} questions, {long_questions} of them to rows of 100,000 cells or more");
+    println!("the longest row has {longest} cells");
+    for (answer, count) in &answers {
+        println!("{answer}: {count}");
+    }
+    let count_of = |words: &str| -> u64 {
+        let told = answers.iter().filter(|(answer, _)| answer.contains(words));
+        told.map(|(_, count)| count).sum()
+    };
+    for way in DAMAGES {
+        assert!(count_of(way) >= 50, "{way}: {}", count_of(way));
+    }
+    for number in 13..=18 {
+        let refused = format!("refused {number}");
+        assert!(
+            count_of(&refused) >= 500,
+            "{refused}: {}",
+            count_of(&refused)
+        );
+    }
+}
+
+/// Damages a row, if it can be done, puts a question to it, and says what came
+/// of it.
+fn compare_damaged(random: &mut Random, rows: &[OwnRow]) -> Option<String> {
+    let way = random.below(DAMAGES.len());
+    let mut damaged = rows[random.below(rows.len())].clone();
+    if !damage(&mut damaged, way, random) {
+        return None;
+    }
+    let whole = &rows[random.below(rows.len())];
+    let question = question(random, &damaged);
+    let two_rows = matches!(question, Question::UpGranule(_) | Question::Down(..));
+    let answer = if two_rows && random.percent(50) {
+        compare(&question, whole, &damaged)
+    } else {
+        compare(&question, &damaged, whole)
+    };
+    assert!(answer.ends_with("refused 13"), "{}: {answer}", DAMAGES[way]);
+    Some(format!("damaged, {}: {answer}", DAMAGES[way]))
+}
+
+/// Puts a question to both, and says what both answered.
+fn compare(question: &Question, first: &OwnRow, other: &OwnRow) -> String {
+    let (one, two) = (first.row(), other.row());
+    let told = |name: &str, answer: &str| format!("{name}: {answer}");
+    let refused = |number: u32| format!("refused {number}");
+    match *question {
+        Question::UpInstant(t) => {
+            let expected = second::up_instant(one, t);
+            assert_eq!(core::up_instant(one, t), expected, "{question:?} {first:?}");
+            let answer = match expected {
+                Ok(Some(_)) => "a label".to_owned(),
+                Ok(None) => "none".to_owned(),
+                Err(number) => refused(number),
+            };
+            told("up from an instant", &answer)
+        }
+        Question::UpGranule(z) => {
+            let expected = second::up_granule(one, two, z);
+            assert_eq!(
+                core::up_granule(one, two, z),
+                expected,
+                "{question:?} {first:?} {other:?}"
+            );
+            let answer = match expected {
+                Ok(Some(_)) => "a label".to_owned(),
+                Ok(None) => "none".to_owned(),
+                Err(number) => refused(number),
+            };
+            told("up from a slot", &answer)
+        }
+        Question::Down(z, most) => {
+            // A list of just the right length, and one too short, where it matters.
+            let mut parts = vec![-7; most];
+            let expected = second::down(one, two, z, &mut parts);
+            let lengths = match expected {
+                Ok(count) => vec![most, count, count.saturating_sub(1)],
+                Err(_) => vec![most],
+            };
+            for length in lengths {
+                let mut expected_parts = vec![-7; length];
+                let mut parts = vec![0x5EED; length];
+                let expected = second::down(one, two, z, &mut expected_parts);
+                let answer = core::down(one, two, z, &mut parts);
+                assert_eq!(answer, expected, "{question:?} {first:?} {other:?}");
+                assert_eq!(parts, expected_parts, "{question:?} {first:?} {other:?}");
+            }
+            let answer = match expected {
+                Ok(1) => "one part".to_owned(),
+                Ok(_) => "several parts".to_owned(),
+                Err(number) => refused(number),
+            };
+            told("down", &answer)
+        }
+        Question::Figures => {
+            let expected = second::figures(one);
+            let bits = |figures: Result<(f64, f64, f64), u32>| {
+                figures.map(|(a, b, c)| [a.to_bits(), b.to_bits(), c.to_bits()])
+            };
+            assert_eq!(bits(core::figures(one)), bits(expected), "{first:?}");
+            told(
+                "figures",
+                &expected.map_or_else(refused, |_| "three".to_owned()),
+            )
+        }
+        Question::MayBeLate(z, d, rule) => {
+            let expected = second::may_be_late(one, z, d, rule);
+            assert_eq!(
+                core::may_be_late(one, z, d, rule),
+                expected,
+                "{question:?} {first:?}"
+            );
+            // A rule that there isn't is an allowance that isn't allowed.
+            let unknown = second::may_be_late(one, z, d, second::Allowance::Fixed(-1.0));
+            for rule in [-1, 2, i64::MIN, i64::MAX] {
+                assert_eq!(
+                    core::may_be_late_by(one, z, d, rule, 1.0),
+                    unknown,
+                    "{question:?} {first:?}"
+                );
+            }
+            let answer = match expected {
+                Ok(true) => "yes".to_owned(),
+                Ok(false) => "no".to_owned(),
+                Err(number) => refused(number),
+            };
+            told("lateness", &answer)
+        }
+    }
+}
