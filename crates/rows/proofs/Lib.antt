@@ -1,0 +1,19 @@
+-- The laws that the functions on rows rest on.
+--     Numbers      what check 13 says of the period, the distance and the cells
+--     Cells        a cell that is read, and its label
+--     Cursors      the cursor of an instant: its bounds, its steps and its label
+--     Walks        a walk to the first or the last instant of a granule
+--     Bounds       how far labels and the ends of granules are from an instant
+--     Search       a search cell by cell
+--     Instants     an instant with a label, by the row's own cells
+--     Turns        the cells of a turn, as a loop goes over them
+--     Falls        what check 13 asks of labels, cell by cell
+pub mod Numbers
+pub mod Cells
+pub mod Cursors
+pub mod Walks
+pub mod Bounds
+pub mod Search
+pub mod Instants
+pub mod Turns
+pub mod Falls
