@@ -35,13 +35,13 @@ table-meaning-unique t headings pool x y = table-unique
 
 -- ---- rows that stand for calendars
 
-represents-length : (ms : List Meant) (rs : List Row) → RepresentsAll ms rs → length ms ≡ length rs
+pub represents-length : (ms : List Meant) (rs : List Row) → RepresentsAll ms rs → length ms ≡ length rs
 represents-length [] [] h = refl
 represents-length [] (r ∷ rs) h = absurd h
 represents-length (m ∷ ms) [] h = absurd h
 represents-length (m ∷ ms) (r ∷ rs) h = ap suc (represents-length ms rs (h .1))
 
-represents-at : (ms : List Meant) (rs : List Row) → RepresentsAll ms rs → (k : ℕ) → k < length rs → Represents (getD ms k nothing) (getD rs k bottomRow)
+pub represents-at : (ms : List Meant) (rs : List Row) → RepresentsAll ms rs → (k : ℕ) → k < length rs → Represents (getD ms k nothing) (getD rs k bottomRow)
 represents-at [] [] h k l = absurd (omega arith)
 represents-at [] (r ∷ rs) h k l = absurd h
 represents-at (m ∷ ms) [] h k l = absurd h

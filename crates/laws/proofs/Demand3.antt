@@ -1,19 +1,15 @@
 -- Demand 3 over the definitions: answered entries mean the same calendar exactly if their rows are equal; so every law holds on the stored rows.
-use mathlib.Core.Path.{subst}
 use mathlib.Core.Logic.{_↔_}
-use mathlib.Core.List.{List, [], _∷_}
-use Prim.Native.Nat.{ℕ, zero, suc, _<_}
+use mathlib.Core.List.{List}
+use Prim.Native.Nat.{ℕ, _<_}
 use native.Mathlib.Omega.{arith}
 use lib.IntN.{ℤ}
-use lib.ListN.{length, getD}
-use Rattle.calendar.specs.Meaning.{Row, Calendar, Same, IsCalendar}
+use lib.ListN.{length}
+use Rattle.calendar.specs.Meaning.{Calendar, Same, IsCalendar}
 use Rattle.calendar.specs.Operation.{Operation}
 use Rattle.calendar.specs.Table.{entryAt}
-use Rattle.algebra.specs.TableMeaning.{Meant, nothing}
-use Rattle.algebra.specs.TableMeaning.TableReply.{means}
-use Rattle.algebra.specs.Represents.{Represents, RepresentsAll, Agrees}
+use Rattle.algebra.specs.TableMeaning.{Meant}
 use Rattle.algebra.proofs.Named.{named-operation}
-use Rattle.algebra.proofs.Demand2.{demand-2-only}
 use Rattle.granules.proofs.Equal.{equal-rows}
 use Rattle.laws.specs.Terms.{Term, Value}
 use Rattle.laws.specs.Terms.Term.{operand, bottom, unary, binary}
@@ -21,22 +17,8 @@ use Rattle.laws.specs.Laws.{Law}
 use Rattle.laws.specs.Matches.{Matches, calendarAt, EqualRows, rowAt}
 use Rattle.laws.specs.Answered.{Answered}
 use Rattle.laws.proofs.Algebra.{law-holds}
+use Rattle.laws.proofs.Answered.{stored-represents}
 use Rattle.laws.proofs.Entries.{EntryDefined, table-defined}
-
--- ---- rows
-
-represents-at : (ms : List Meant) (rs : List Row) → RepresentsAll ms rs → (k : ℕ) → k < length ms → Represents (getD ms k nothing) (rowAt rs k)
-represents-at [] [] h k l = absurd (omega arith)
-represents-at [] (r ∷ rs) h k l = absurd h
-represents-at (m ∷ ms) [] h k l = absurd h
-represents-at (m ∷ ms) (r ∷ rs) h zero l = h .0
-represents-at (m ∷ ms) (r ∷ rs) h (suc k) l = represents-at ms rs (h .1) k (omega arith)
-
--- the stored row of an entry stands for its calendar
-stored-represents : (x : Answered) (k : ℕ) → k < length (x .meanings) → Represents (getD (x .meanings) k nothing) (rowAt (x .stored) k)
-stored-represents x =
-    represents-at (x .meanings) (x .stored)
-    (subst (Agrees (means (x .meanings))) (x .stores) (demand-2-only (x .table) (x .headings) (x .pool) (means (x .meanings)) (x .means)))
 
 -- (a) two answered entries, of one table or of two, mean the same calendar exactly if period, distance and cells are equal
 pub demand-3-rows : (x y : Answered) (k l : ℕ) → k < length (x .meanings) → l < length (y .meanings)
@@ -45,8 +27,6 @@ demand-3-rows x y k l h h′ =
     let r = stored-represents x k h in
     equal-rows (calendarAt (x .meanings) k) (calendarAt (y .meanings) l) (rowAt (x .stored) k) (rowAt (y .stored) l) (r .calendar) (r .least)
     (stored-represents y l h′ .least)
-
--- ---- laws
 
 -- the calendar of an entry that matches a term is a value of the term
 module _ (t : List ℤ) (ms : List Meant) (defined : (k : ℕ) → k < length ms → EntryDefined t ms k) (v : ℕ → Calendar) where

@@ -9,7 +9,10 @@
 --     Values         values of terms whose operands are given
 --     Algebra        each law holds among calendars
 --     Entries        each entry of an answered table means the result of what it names
+--     Answered       a table that stores rows is answered
 --     Demand3        demand 3 over the definitions
+--     Example        demand 3 applies to an example
+--     Applies        an example of each law
 pub mod Pointwise
 pub mod Sets
 pub mod SelfOperands
@@ -20,4 +23,7 @@ pub mod Renumber
 pub mod Values
 pub mod Algebra
 pub mod Entries
+pub mod Answered
 pub mod Demand3
+pub mod Example
+pub mod Applies

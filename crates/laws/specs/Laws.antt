@@ -1,7 +1,7 @@
 -- Document 01's "Laws demand 3 speaks of", as data.
 use Prim.Native.Nat.{ℕ, _*_}
 use lib.IntN.{ℤ, pos, negℤ, _+ℤ_, _-ℤ_, _*ℤ_}
-use Rattle.calendar.specs.Operation.{Unary, SetOperation, Binary}
+use Rattle.calendar.specs.Operation.{SetOperation}
 use Rattle.calendar.specs.Operation.Unary.{group, shift, renumber}
 use Rattle.calendar.specs.Operation.Binary.{alter, combine, anchor, by-labels}
 use Rattle.laws.specs.Terms.{Term}

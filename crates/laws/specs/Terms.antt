@@ -1,7 +1,5 @@
 -- Terms of the algebra, and what it is for a calendar to be the value of one.
-use mathlib.Core.Path.{_≡_}
 use Prim.Native.Nat.{ℕ}
-use lib.IntN.{ℤ}
 use Rattle.calendar.specs.Meaning.{Calendar, Same, IsCalendar}
 use Rattle.calendar.specs.Operation.{Unary, Binary, Operation}
 use Rattle.calendar.specs.Algebra.{Result, FullOperands, Aligned, Emptied}

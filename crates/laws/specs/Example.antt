@@ -1,0 +1,53 @@
+-- Examples of a law: two entries of answered tables that match its sides.
+use mathlib.Core.Path.{_≡_}
+use mathlib.Core.Option.{Option, some}
+use mathlib.Core.List.{List, [], _∷_, map}
+use Prim.Native.Nat.{ℕ, _<_}
+use lib.IntN.{ℤ}
+use lib.ListN.{length, getD, getElem?}
+use Rattle.calendar.specs.Meaning.{Row, Calendar, Same, IsCalendar}
+use Rattle.calendar.specs.Table.{outcome}
+use Rattle.calendar.specs.Table.Outcome.{refusedAt, rows}
+use Rattle.algebra.specs.TableMeaning.{Meant}
+use Rattle.laws.specs.Terms.{Term}
+use Rattle.laws.specs.Laws.{Law}
+use Rattle.laws.specs.Matches.{calendarAt, Matches}
+use Rattle.laws.specs.Answered.{Answered}
+
+-- headings and cells that are enough for each example
+abbrev pub exampleHeadings : ℕ
+exampleHeadings = 32
+
+abbrev pub examplePool : ℕ
+examplePool = 200
+
+-- the rows of the entries ks, where the table is answered
+unfoldable pub rowsIn : List ℤ → List ℕ → List (Option Row)
+unfolding outcome
+rowsIn t ks = elim (outcome t exampleHeadings examplePool) [ refusedAt m k ↦ [] | rows l ↦ map (getElem? l) ks ]
+
+-- an answered table with an entry that matches the term s, over entries for its operands; the rows of all these
+pub record Side (s : Term) (operandRows : List Row) (row : Row) : Type 0 where
+  pub table : List ℤ
+  pub entry : ℕ
+  pub operands : List ℕ
+  pub stored : rowsIn table (entry ∷ operands) ≡ map some (row ∷ operandRows)
+  pub matches : (ms : List Meant) (v : ℕ → Calendar) → ((n : ℕ) → Same (calendarAt ms (getD operands n entry)) (v n)) → Matches table ms v s entry
+
+-- both sides of a law, over operands with the same rows
+pub record Example {s s′ : Term} (law : Law s s′) (operandRows : List Row) (row : Row) : Type 0 where
+  pub left : Side s operandRows row
+  pub right : Side s′ operandRows row
+
+-- all that demand 3 asks of two entries that match the sides of a law
+pub record Applies {s s′ : Term} (law : Law s s′) : Type 0 where
+  pub x : Answered
+  pub y : Answered
+  pub k : ℕ
+  pub l : ℕ
+  pub k-answered : k < length (x .meanings)
+  pub l-answered : l < length (y .meanings)
+  pub v : ℕ → Calendar
+  pub calendars : (n : ℕ) → IsCalendar (v n)
+  pub left : Matches (x .table) (x .meanings) v s k
+  pub right : Matches (y .table) (y .meanings) v s′ l
