@@ -1,4 +1,4 @@
--- The instant of a cursor, and the place of an instant.
+-- The instant of a cursor, the place of an instant, and a step to the place of another.
 -- Assumes nothing.
 use mathlib.Core.Path.{_≡_, sym, _∙_, ap, subst}
 use mathlib.Core.Option.{some}
@@ -12,10 +12,12 @@ use Rattle.integers.proofs.Floor.{floor-eq, floor-unique}
 use Rattle.calendar.specs.Meaning.{Row, meant}
 use Rattle.granules.specs.Valid.{Valid}
 use Rattle.rows.specs.declared.Cursor.{Cursor}
+use Rattle.rows.specs.Found.{Near}
 use Rattle.rows.specs.Cursor.{cursorAt}
 use Rattle.rows.proofs.Cursors.{cursor-at}
 use Rattle.walks.specs.declared.Place.{Place}
-use Rattle.walks.specs.Sides.{instant, Stands}
+use Rattle.walks.specs.Places.{instant, at, Beside}
+use Rattle.walks.specs.Sides.{Stands}
 
 pub instant-is : (r : Row) → Valid r → (c : Cursor) (u : ℤ) → c ≡ cursorAt r u → instant r c ≡ u
 unfolding instant
@@ -38,3 +40,23 @@ stands b a v p t lo hi bc bl ac al =
       a-cursor = ac ∙ ap (cursorAt a) e;
       a-label = ap (meant a) (sym e) ∙ al;
     }
+
+-- a step from the place p to the place q, of the instant u
+pub record Moved (b a : Row) (p q : Place) (u : ℤ) : Type 0 where
+  pub b-cursor : q .b ≡ cursorAt b u
+  pub a-cursor : q .a ≡ cursorAt a u
+  pub k-kept : q .k ≡ p .k
+  pub i-kept : q .i ≡ p .i
+
+module _ (b a : Row) (v : Valid b) (p q : Place) (u : ℤ) (m : Moved b a p q u) where
+  pub moved-at : at b q ≡ u
+  moved-at = instant-is b v (q .b) u (m .b-cursor)
+
+  pub moved-b : q .b ≡ cursorAt b (at b q)
+  moved-b = m .b-cursor ∙ ap (cursorAt b) (sym moved-at)
+
+  pub moved-a : q .a ≡ cursorAt a (at b q)
+  moved-a = m .a-cursor ∙ ap (cursorAt a) (sym moved-at)
+
+  pub moved-beside : Near u → Beside b a q
+  moved-beside n = record { near = subst Near (sym moved-at) n; b-cursor = moved-b; a-cursor = moved-a }

@@ -1,9 +1,9 @@
 -- The granule of a place lies in the other from the place on, and up to it.
 -- Assumes nothing.
-use mathlib.Core.Path.{_≡_, refl, sym}
+use mathlib.Core.Path.{_≡_}
 use mathlib.Core.Logic.{_↔_, ⊎-elim, ⊎-map}
 use mathlib.Core.Option.{some}
-use mathlib.Core.Bool.{Bool, true, false, not, _&&_, _||_}
+use mathlib.Core.Bool.{Bool, true, false, _&&_, _||_}
 use lib.IntN.{ℤ}
 use lib.Signed.{_≤ℤ_, ltZ}
 use Rattle.integers.proofs.Machine.{test-not-lt}
@@ -17,7 +17,8 @@ use Rattle.granules.proofs.Lists.{all-iff}
 use Rattle.granules.proofs.Granule.{granule-lists}
 use Rattle.granules.proofs.Inside.{inside-iff}
 use Rattle.walks.specs.declared.Place.{Place}
-use Rattle.walks.specs.Sides.{start, insideFrom, insideUpTo}
+use Rattle.walks.specs.Places.{at}
+use Rattle.walks.specs.Sides.{insideFrom, insideUpTo}
 
 -- the instants of b's granule for which s holds are in a's
 abbrev pub Held : Row → Row → Place → (ℤ → Type 0) → Type 0
@@ -33,17 +34,17 @@ module _ (b a : Row) (v : Valid b) (p : Place) where
         λ s. h .1 (λ u m. or-iff (f u) (is (p .i) (meant a u)) .1 (⊎-map (λ y. y) (λ n. is-iff (p .i) (meant a u) .1 (s u n (g .member u .1 m))) (true-or-false (f u)))),
       )
 
-  pub from-iff : (insideFrom b a p ≡ true) ↔ Held b a p (λ u. start b p ≤ℤ u)
+  pub from-iff : (insideFrom b a p ≡ true) ↔ Held b a p (λ u. at b p ≤ℤ u)
   unfolding insideFrom
   from-iff =
-      let h = held-iff (λ u. ltZ u (start b p)) in
-      (λ e u m. h .0 e u (test-not-lt u (start b p) .1 m), λ s. h .1 (λ u n. s u (test-not-lt u (start b p) .0 n)))
+      let h = held-iff (λ u. ltZ u (at b p)) in
+      (λ e u m. h .0 e u (test-not-lt u (at b p) .1 m), λ s. h .1 (λ u n. s u (test-not-lt u (at b p) .0 n)))
 
-  pub up-to-iff : (insideUpTo b a p ≡ true) ↔ Held b a p (λ u. u ≤ℤ start b p)
+  pub up-to-iff : (insideUpTo b a p ≡ true) ↔ Held b a p (λ u. u ≤ℤ at b p)
   unfolding insideUpTo
   up-to-iff =
-      let h = held-iff (λ u. ltZ (start b p) u) in
-      (λ e u m. h .0 e u (test-not-lt (start b p) u .1 m), λ s. h .1 (λ u n. s u (test-not-lt (start b p) u .0 n)))
+      let h = held-iff (λ u. ltZ (at b p) u) in
+      (λ e u m. h .0 e u (test-not-lt (at b p) u .1 m), λ s. h .1 (λ u n. s u (test-not-lt (at b p) u .0 n)))
 
   -- the two sides are the whole
   pub both-sides : insideFrom b a p && insideUpTo b a p ≡ inside b (p .k) a (p .i)
@@ -51,10 +52,5 @@ module _ (b a : Row) (v : Valid b) (p : Place) where
       let w = inside-iff b a v (p .k) (p .i) in
       let y = and-iff (insideFrom b a p) (insideUpTo b a p) in
       test-ext
-      (λ e. w .1 (λ u l. ⊎-elim (λ h. from-iff .0 (y .0 e .0) u h l) (λ h. up-to-iff .0 (y .0 e .1) u (<ℤ→≤ℤ h) l) (le-or-lt (start b p) u)))
+      (λ e. w .1 (λ u l. ⊎-elim (λ h. from-iff .0 (y .0 e .0) u h l) (λ h. up-to-iff .0 (y .0 e .1) u (<ℤ→≤ℤ h) l) (le-or-lt (at b p) u)))
       (λ e. y .1 (from-iff .1 (λ u _. w .0 e u), up-to-iff .1 (λ u _. w .0 e u)))
-
--- a test whose negation fails
-pub not-false : (b : Bool) → not b ≡ false → b ≡ true
-not-false true e = refl
-not-false false e = sym e

@@ -1,3 +1,5 @@
 -- The walks over two rows.
---     Sides        where a walk starts, and what it decides on either side
+--     Places       an instant of two rows, and what it says to a walk
+--     Sides        a granule lies in another on one side of a place
+pub mod Places
 pub mod Sides

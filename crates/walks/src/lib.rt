@@ -10,15 +10,26 @@ ghost use Rattle.calendar.specs.Questions.{given, holder};
 ghost use Rattle.rows.specs.Found.{found, Sound, Labelled};
 ghost use Rattle.rows.specs.Cursor.{cursorAt, Standing};
 ghost use Rattle.walks.specs.Sides.{Stands, insideFrom, insideUpTo};
+ghost use Rattle.walks.specs.Places.{Shown, Beside, stepAt};
 use rows::Cursor;
 use rows::Found;
 
-// An instant of two rows, b and a: its cursor in each, and its labels, k in b and i in a.
+// Where a walk is that sees whether the granule k of the row b lies in the granule i of the row a: at one instant, by its cursors.
 struct Place {
     b: Cursor,
     k: i64,
     a: Cursor,
     i: i64,
+}
+
+// What an instant says to such a walk.
+enum Step {
+    // Go on: it is in both granules, or has no label in b.
+    On,
+    // It has another label in b: the granule is done on this side.
+    Done,
+    // It is in b's granule and not in a's.
+    Out,
 }
 
 // Whether the cursor's instant has the label j.
@@ -34,7 +45,48 @@ fn shows(cells: &[i32], period: i64, distance: i64, c: Cursor, j: i64) -> bool
     }
 }
 
-// Whether b's granule at the place lies in a's from that instant on: on until another label of b shows.
+// The label of the cursor's instant, which has one.
+fn label_of(cells: &[i32], period: i64, distance: i64, c: Cursor) -> i64
+    requires { ⌜ Sound period distance (now cells) ⌝ }
+    requires { ⌜ Shown (given period distance (now cells)) c ⌝ }
+    ensures { λ r. ⌜ ((u : ℤ) → c ≡ cursorAt (given period distance (now (cells .entry))) u → meant (given period distance (now (cells .entry))) u ≡ some r) ⌝ }
+{
+    let label = rows::cursor_label(cells, period, distance, c);
+    let Found::At(j) = label else {
+        return 0;
+    };
+    j
+}
+
+// What the instant of the place says.
+fn step_at(
+    b_cells: &[i32],
+    b_period: i64,
+    b_distance: i64,
+    a_cells: &[i32],
+    a_period: i64,
+    a_distance: i64,
+    p: Place,
+) -> Step
+    requires { ⌜ Sound «b_period» «b_distance» (now «b_cells») ⌝ }
+    requires { ⌜ Sound «a_period» «a_distance» (now «a_cells») ⌝ }
+    requires { ⌜ Beside (given «b_period» «b_distance» (now «b_cells»)) (given «a_period» «a_distance» (now «a_cells»)) p ⌝ }
+    ensures { λ r. ⌜ r ≡ stepAt (given «b_period» «b_distance» (now («b_cells» .entry))) (given «a_period» «a_distance» (now («a_cells» .entry))) p ⌝ }
+{
+    let label = rows::cursor_label(b_cells, b_period, b_distance, p.b);
+    let Found::At(k) = label else {
+        return Step::On;
+    };
+    if k != p.k {
+        return Step::Done;
+    }
+    if !shows(a_cells, a_period, a_distance, p.a, p.i) {
+        return Step::Out;
+    }
+    Step::On
+}
+
+// Whether b's granule at the place lies in a's from that instant on.
 fn inside_forward(
     b_cells: &[i32],
     b_period: i64,
@@ -49,27 +101,28 @@ fn inside_forward(
     requires { ⌜ Stands (given «b_period» «b_distance» (now «b_cells»)) (given «a_period» «a_distance» (now «a_cells»)) from ⌝ }
     ensures { λ r. ⌜ r ≡ insideFrom (given «b_period» «b_distance» (now («b_cells» .entry))) (given «a_period» «a_distance» (now («a_cells» .entry))) from ⌝ }
 {
-    let mut b = from.b;
-    let mut a = from.a;
+    let mut next = from;
     loop {
-        b = rows::cursor_next(b_cells, b_period, b_distance, b);
-        a = rows::cursor_next(a_cells, a_period, a_distance, a);
-        let label = rows::cursor_label(b_cells, b_period, b_distance, b);
-        match label {
-            Found::At(k) => {
-                if k != from.k {
-                    return true;
-                }
-                if !shows(a_cells, a_period, a_distance, a, from.i) {
-                    return false;
-                }
-            }
-            Found::Nothing => {}
+        next.b = rows::cursor_next(b_cells, b_period, b_distance, next.b);
+        next.a = rows::cursor_next(a_cells, a_period, a_distance, next.a);
+        let step = step_at(
+            b_cells,
+            b_period,
+            b_distance,
+            a_cells,
+            a_period,
+            a_distance,
+            next,
+        );
+        match step {
+            Step::On => {}
+            Step::Done => return true,
+            Step::Out => return false,
         }
     }
 }
 
-// Whether b's granule at the place lies in a's up to that instant: back in the same way.
+// Whether b's granule at the place lies in a's up to that instant.
 fn inside_back(
     b_cells: &[i32],
     b_period: i64,
@@ -84,22 +137,23 @@ fn inside_back(
     requires { ⌜ Stands (given «b_period» «b_distance» (now «b_cells»)) (given «a_period» «a_distance» (now «a_cells»)) from ⌝ }
     ensures { λ r. ⌜ r ≡ insideUpTo (given «b_period» «b_distance» (now («b_cells» .entry))) (given «a_period» «a_distance» (now («a_cells» .entry))) from ⌝ }
 {
-    let mut b = from.b;
-    let mut a = from.a;
+    let mut previous = from;
     loop {
-        b = rows::cursor_back(b_cells, b_period, b_distance, b);
-        a = rows::cursor_back(a_cells, a_period, a_distance, a);
-        let label = rows::cursor_label(b_cells, b_period, b_distance, b);
-        match label {
-            Found::At(k) => {
-                if k != from.k {
-                    return true;
-                }
-                if !shows(a_cells, a_period, a_distance, a, from.i) {
-                    return false;
-                }
-            }
-            Found::Nothing => {}
+        previous.b = rows::cursor_back(b_cells, b_period, b_distance, previous.b);
+        previous.a = rows::cursor_back(a_cells, a_period, a_distance, previous.a);
+        let step = step_at(
+            b_cells,
+            b_period,
+            b_distance,
+            a_cells,
+            a_period,
+            a_distance,
+            previous,
+        );
+        match step {
+            Step::On => {}
+            Step::Done => return true,
+            Step::Out => return false,
         }
     }
 }
@@ -122,14 +176,8 @@ pub fn inside(
 {
     let b = rows::cursor_at(b_cells, b_period, b_distance, t);
     let a = rows::cursor_at(a_cells, a_period, a_distance, t);
-    let b_label = rows::cursor_label(b_cells, b_period, b_distance, b);
-    let Found::At(k) = b_label else {
-        return false;
-    };
-    let a_label = rows::cursor_label(a_cells, a_period, a_distance, a);
-    let Found::At(i) = a_label else {
-        return false;
-    };
+    let k = label_of(b_cells, b_period, b_distance, b);
+    let i = label_of(a_cells, a_period, a_distance, a);
     let from = Place { b, k, a, i };
     inside_forward(
         b_cells,
@@ -149,4 +197,38 @@ pub fn inside(
             a_distance,
             from,
         )
+}
+
+// The label of h whose granule contains g's granule of t, if there is one.
+pub fn holder(
+    g_cells: &[i32],
+    g_period: i64,
+    g_distance: i64,
+    h_cells: &[i32],
+    h_period: i64,
+    h_distance: i64,
+    t: i64,
+) -> Found
+    requires { ⌜ Sound «g_period» «g_distance» (now «g_cells») ⌝ }
+    requires { ⌜ Sound «h_period» «h_distance» (now «h_cells») ⌝ }
+    requires { ⌜ Labelled (given «g_period» «g_distance» (now «g_cells»)) t ⌝ }
+    ensures { λ r. ⌜ ((z : ℤ) → meant (given «g_period» «g_distance» (now («g_cells» .entry))) t ≡ some z → found r ≡ holder (given «g_period» «g_distance» (now («g_cells» .entry))) (given «h_period» «h_distance» (now («h_cells» .entry))) z) ⌝ }
+{
+    let label = rows::label_at(h_cells, h_period, h_distance, t);
+    let Found::At(i) = label else {
+        return Found::Nothing;
+    };
+    if inside(
+        g_cells,
+        g_period,
+        g_distance,
+        h_cells,
+        h_period,
+        h_distance,
+        t,
+    ) {
+        Found::At(i)
+    } else {
+        Found::Nothing
+    }
 }

@@ -1,40 +1,36 @@
 -- `walks::inside_back` meets its contract: it is a walk back.
 -- Assumes nothing.
-use borrow.Author.Needs.{needs, sfits-of}
-use mathlib.Core.Path.{_≡_, sym, _∙_, ap, subst}
-use mathlib.Core.Option.{some}
-use Prim.Native.Nat.{_<_}
+use borrow.Author.Needs.{needs}
+use mathlib.Core.Path.{_≡_, refl, sym, _∙_}
 use native.Mathlib.Omega.{arith}
-use lib.IntN.{ℤ, pos, _-ℤ_}
-use mir.Facts.{toZ-ofZ}
+use lib.IntN.{pos, _-ℤ_}
 use mir.Syntax.{w64}
 use mir.Val.{toZ, ofZ}
 use Rattle.integers.specs.Parts.{up}
 use Rattle.integers.proofs.Linear.{ints, _∴_}
-use Rattle.integers.proofs.Machine.{plain, test-eq}
-use Rattle.calendar.specs.Meaning.{Row, meant}
-use Rattle.calendar.specs.Lists.{is}
+use Rattle.integers.proofs.Machine.{plain}
+use Rattle.calendar.specs.Meaning.{Row}
 use Rattle.calendar.specs.Questions.{given}
 use Rattle.granules.specs.Valid.{Valid}
-use Rattle.granules.proofs.Tests.{is-iff, false-iff, not-iff}
-use Rattle.rows.specs.Found.{Sound, Near, found}
-use Rattle.rows.specs.Cursor.{cursorAt}
+use Rattle.rows.specs.Found.{Sound, Near}
 use Rattle.rows.proofs.Numbers.{numbers, valid}
 use Rattle.rows.proofs.Walks.{left}
-use Rattle.walks.specs.Sides.{instant, start, Stands}
-use Rattle.walks.proofs.Sides.{not-false}
-use Rattle.walks.proofs.Walks.{Behind, behind-start, behind-past, behind-to, behind-end, behind-out, behind-less}
+use Rattle.walks.specs.declared.Place.{Place}
+use Rattle.walks.specs.Places.{at, stepAt}
+use Rattle.walks.specs.Sides.{Stands}
+use Rattle.walks.proofs.Places.{Moved, moved-beside}
+use Rattle.walks.proofs.Walks.{Behind, behind-start, behind-on, behind-done, behind-out, behind-less}
 use Rattle.walks.proofs.inside_back.Statement.{statement}
 use Rattle.walks.proofs.inside_back.Tie as tie
 
 abbrev Inv-loop : tie.InvT-loop
-Inv-loop b-cells b-period b-distance a-cells a-period a-distance from b₀ a₀ b a =
-    Behind (given (toZ w64 b-period) (toZ w64 b-distance) b-cells) (given (toZ w64 a-period) (toZ w64 a-distance) a-cells) from b a
+Inv-loop b-cells b-period b-distance a-cells a-period a-distance from previous =
+    Behind (given (toZ w64 b-period) (toZ w64 b-distance) b-cells) (given (toZ w64 a-period) (toZ w64 a-distance) a-cells) from previous
 
 abbrev μ-loop : tie.MeasureT-loop
-μ-loop b-cells b-period b-distance a-cells a-period a-distance from b₀ a₀ b a =
+μ-loop b-cells b-period b-distance a-cells a-period a-distance from previous =
     let r = given (toZ w64 b-period) (toZ w64 b-distance) b-cells in
-    left (up (toZ w64 b-period)) (start r from) (instant r b)
+    left (up (toZ w64 b-period)) (at r from) (at r previous)
 
 -- the rows as the machine has them
 abbrev Start : Type 0
@@ -58,8 +54,8 @@ a-sound s =
     let n = s .fits .a-distance in
     simp plain (s .pre .1 .0)
 
-place : (s : Start) → Stands (b-row s) (a-row s) (s .args .from)
-place s =
+stands : (s : Start) → Stands (b-row s) (a-row s) (s .args .from)
+stands s =
     let p = s .fits .b-period in
     let n = s .fits .b-distance in
     let q = s .fits .a-period in
@@ -70,124 +66,86 @@ rules : (s : Start) → Valid (b-row s)
 rules s = valid (toZ w64 (ofZ w64 (s .args .b-period))) (toZ w64 (ofZ w64 (s .args .b-distance))) (s .args .b-cells .now) (b-sound s)
 
 loop-holds : tie.Need-loop-holds Inv-loop μ-loop
-loop-holds c = let s = c .before .before in behind-start (b-row s) (a-row s) (rules s) (s .args .from) (place s)
+loop-holds s = behind-start (b-row s) (a-row s) (rules s) (s .args .from) (stands s)
 
 -- where the walk is
-abbrev here : tie.At-loop Inv-loop μ-loop → ℤ
-here c = instant (b-row (c .before .before .before)) (c .loop .b)
-
-near : (c : tie.At-loop Inv-loop μ-loop) → Near (here c) × Near (here c -ℤ pos 1)
+near : (c : tie.At-loop Inv-loop μ-loop) → let u = at (b-row (c .before)) (c .loop .previous) in Near u × Near (u -ℤ pos 1)
 near c =
-    let s = c .before .before .before in
-    let l = place s in
+    let s = c .before in
     let n = numbers (toZ w64 (ofZ w64 (s .args .b-period))) (toZ w64 (ofZ w64 (s .args .b-distance))) (s .args .b-cells .now) (b-sound s) in
-    l .low ∴ l .high ∴ n .high ∴ c .loop .inv .walk .low ∴ c .loop .inv .walk .high ∴ simp ints (omega arith)
+    stands s .low ∴ stands s .high ∴ n .high ∴ c .loop .inv .walk .low ∴ c .loop .inv .walk .high ∴ simp ints (omega arith)
 
 cursor-back-requires : tie.Need-cursor-back-requires Inv-loop μ-loop
-cursor-back-requires c κs = (b-sound (c .before .before .before), (here c, near c .0, c .loop .inv .walk .cursor))
+cursor-back-requires c κs = (b-sound (c .before), (at (b-row (c .before)) (c .loop .previous), near c .0, c .loop .inv .walk .cursor))
 
 cursor-back-requires-2 : tie.Need-cursor-back-requires-2 Inv-loop μ-loop
-cursor-back-requires-2 c κs = (a-sound (c .before .before .before .before), (here (c .before), near (c .before) .0, c .before .loop .inv .beside))
+cursor-back-requires-2 c κs = let l = c .before in (a-sound (l .before), (at (b-row (l .before)) (l .loop .previous), near l .0, l .loop .inv .beside))
 
--- the instant before, in both rows
-b-back : (c : tie.After-cursor-back2 Inv-loop μ-loop) → c .before .cursor-back .result ≡ cursorAt (b-row (c .before .before .before .before .before)) (here (c .before .before) -ℤ pos 1)
-b-back c = c .before .cursor-back .ensures (here (c .before .before)) (c .before .before .loop .inv .walk .cursor)
+-- where it goes
+abbrev there : tie.After-cursor-back2 Inv-loop μ-loop → Place
+there c = let p = c .before .before .loop .previous in record { b = c .before .cursor-back .result; k = p .k; a = c .cursor-back2 .result; i = p .i }
 
-a-back : (c : tie.After-cursor-back2 Inv-loop μ-loop) → c .cursor-back2 .result ≡ cursorAt (a-row (c .before .before .before .before .before)) (here (c .before .before) -ℤ pos 1)
-a-back c = c .cursor-back2 .ensures (here (c .before .before)) (c .before .before .loop .inv .beside)
+moved : (c : tie.After-cursor-back2 Inv-loop μ-loop) → let l = c .before .before in Moved (b-row (l .before)) (a-row (l .before)) (l .loop .previous) (there c) (at (b-row (l .before)) (l .loop .previous) -ℤ pos 1)
+moved c =
+    let l = c .before .before in
+    let u = at (b-row (l .before)) (l .loop .previous) in
+    record { b-cursor = c .before .cursor-back .ensures u (l .loop .inv .walk .cursor); a-cursor = c .cursor-back2 .ensures u (l .loop .inv .beside); k-kept = refl; i-kept = refl }
 
-cursor-label-requires : tie.Need-cursor-label-requires Inv-loop μ-loop
-cursor-label-requires c κs = (b-sound (c .before .before .before .before .before), (here (c .before .before) -ℤ pos 1, near (c .before .before) .1, b-back c))
+step-at-requires : tie.Need-step-at-requires Inv-loop μ-loop
+step-at-requires c κs =
+    let l = c .before .before in
+    let s = l .before in
+    (b-sound s, (a-sound s, moved-beside (b-row s) (a-row s) (rules s) (l .loop .previous) (there c) _ (moved c) (near l .1)))
 
-enum-known-label : tie.Need-enum-known-label Inv-loop μ-loop
-enum-known-label c = search needs
-
--- the label of the instant before in b
-abbrev begun : tie.After-cursor-label Inv-loop μ-loop → Start
-begun d = d .before .before .before .before .before .before
-
-label-is : (d : tie.After-cursor-label Inv-loop μ-loop) → meant (b-row (begun d)) (here (d .before .before .before) -ℤ pos 1) ≡ found (d .cursor-label .result)
-label-is d = sym (d .cursor-label .ensures (here (d .before .before .before) -ℤ pos 1) (b-back (d .before)))
-
-label-some : (c : tie.After-known-told Inv-loop μ-loop) → meant (b-row (begun (c .before .before .before))) (here (c .before .before .before .before .before .before) -ℤ pos 1) ≡ some (c .before .label .given .0 .0)
-label-some c = label-is (c .before .before .before) ∙ ap found (c .before .label .given .1)
-
-returns : tie.Need-returns Inv-loop μ-loop
-returns c =
-    let k = c .before .before .before in
-    let d = k .before .before .before in
-    let s = begun d in
-    let p = s .fits .b-period in
-    let n = s .fits .b-distance in
-    let q = s .fits .a-period in
-    let m = s .fits .a-distance in
-    let e = behind-end (b-row s) (a-row s) (rules s) (s .args .from) _ _ _ _ (d .before .before .before .loop .inv) (b-back (d .before)) (a-back (d .before)) _ (label-some k) (λ x. c .if1 .taken (ap (ofZ w64) x)) in
-    sym (simp plain at e)
-
--- where it is that of the place
-own-label : (c : tie.Else1 Inv-loop μ-loop)
-    → let d = c .before .before .before .before .before .before in
-    meant (b-row (begun d)) (here (d .before .before .before) -ℤ pos 1) ≡ some (begun d .args .from .k)
-own-label c =
-    let k = c .before .before .before in
-    label-some k ∙ ap some (test-eq w64 _ _ (sfits-of (k .known-told .given .0 .1)) (sfits-of (c .before .struct-told .given .1 .0 .1)) .0 (c .if1 .left))
-
-shows-requires : tie.Need-shows-requires Inv-loop μ-loop
-shows-requires c κs =
-    let d = c .before .before .before .before .before .before .before in
-    (a-sound (begun d), (here (d .before .before .before) -ℤ pos 1, near (d .before .before .before) .1, a-back (d .before)))
-
--- whether the instant before is in a's granule
-shown : (c : tie.After-shows Inv-loop μ-loop)
-    → let d = c .before .before .before .before .before .before .before .before in
-    c .shows .result ≡ is (begun d .args .from .i) (meant (a-row (begun d)) (here (d .before .before .before) -ℤ pos 1))
-shown c =
-    let d = c .before .before .before .before .before .before .before .before in
-    let u = here (d .before .before .before) -ℤ pos 1 in
-    subst (λ (z : ℤ). c .shows .result ≡ is z (meant (a-row (begun d)) u)) (toZ-ofZ (sfits-of (c .before .struct-told2 .given .1 .1 .1 .0 .1))) (c .shows .ensures u (a-back (d .before)))
-
-returns-2 : tie.Need-returns-2 Inv-loop μ-loop
-returns-2 c =
-    let o = c .before .before .before in
-    let d = o .before .before .before .before .before .before in
-    let s = begun d in
-    let p = s .fits .b-period in
-    let n = s .fits .b-distance in
-    let q = s .fits .a-period in
-    let m = s .fits .a-distance in
-    let e =
-    behind-out (b-row s) (a-row s) (rules s) (s .args .from) _ _ _ _ (d .before .before .before .loop .inv) (b-back (d .before)) (a-back (d .before)) (own-label o)
-    (false-iff (is-iff _ _) .0 (sym (shown (c .before)) ∙ not-iff (c .before .shows .result) .0 (c .if2 .taken))) in
-    sym (simp plain at e)
-
-less : (d : tie.After-cursor-label Inv-loop μ-loop)
-    → let s = begun d in
-    left (up (toZ w64 (ofZ w64 (s .args .b-period)))) (start (b-row s) (s .args .from)) (instant (b-row s) (d .before .before .cursor-back .result))
-    < left (up (toZ w64 (ofZ w64 (s .args .b-period)))) (start (b-row s) (s .args .from)) (here (d .before .before .before))
-less d = let s = begun d in behind-less (b-row s) (a-row s) (rules s) (s .args .from) _ _ _ _ (d .before .before .before .loop .inv) (b-back (d .before)) (a-back (d .before))
-
-loop-less : tie.Need-loop-less Inv-loop μ-loop
-loop-less c = less (c .before .before .before .before .before .before .before .before .before)
-
-loop-again : tie.Need-loop-again Inv-loop μ-loop
-loop-again c =
-    let o = c .before .before .before in
-    let d = o .before .before .before .before .before .before in
-    let s = begun d in
-    behind-to (b-row s) (a-row s) (rules s) (s .args .from) _ _ _ _ (d .before .before .before .loop .inv) (b-back (d .before)) (a-back (d .before)) (own-label o)
-    (is-iff _ _ .0 (sym (shown (c .before)) ∙ not-false (c .before .shows .result) (c .if2 .left)))
+said : (c : tie.After-step-at Inv-loop μ-loop) → let s = c .before .before .before .before in stepAt (b-row s) (a-row s) (there (c .before)) ≡ c .step-at .result
+said c = sym (c .step-at .ensures)
 
 enum-told : tie.Need-enum-told Inv-loop μ-loop
 enum-told c = search needs
 
-loop-less-2 : tie.Need-loop-less-2 Inv-loop μ-loop
-loop-less-2 c = less (c .before .before)
+loop-less : tie.Need-loop-less Inv-loop μ-loop
+loop-less c =
+    let d = c .before .before .before in
+    let l = d .before .before in
+    let s = l .before in
+    behind-less (b-row s) (a-row s) (rules s) (s .args .from) (l .loop .previous) (there d) (l .loop .inv) (moved d)
 
-loop-again-2 : tie.Need-loop-again-2 Inv-loop μ-loop
-loop-again-2 c =
-    let d = c .before .before in
-    let s = begun d in
-    behind-past (b-row s) (a-row s) (rules s) (s .args .from) _ _ _ _ (d .before .before .before .loop .inv) (b-back (d .before)) (a-back (d .before)) (label-is d ∙ ap found (c .enum-told .given .1))
+loop-again : tie.Need-loop-again Inv-loop μ-loop
+loop-again c =
+    let d = c .before .before .before in
+    let l = d .before .before in
+    let s = l .before in
+    behind-on (b-row s) (a-row s) (rules s) (s .args .from) (l .loop .previous) (there d) (l .loop .inv) (moved d) (said (c .before .before) ∙ c .enum-told .given .1)
+
+enum-told-2 : tie.Need-enum-told-2 Inv-loop μ-loop
+enum-told-2 c = search needs
+
+returns : tie.Need-returns Inv-loop μ-loop
+returns c =
+    let d = c .before .before .before in
+    let l = d .before .before in
+    let s = l .before in
+    let p = s .fits .b-period in
+    let n = s .fits .b-distance in
+    let q = s .fits .a-period in
+    let m = s .fits .a-distance in
+    let e = behind-done (b-row s) (a-row s) (rules s) (s .args .from) (l .loop .previous) (there d) (l .loop .inv) (moved d) (said (c .before .before) ∙ c .enum-told2 .given .1) in
+    sym (simp plain at e)
+
+enum-told-3 : tie.Need-enum-told-3 Inv-loop μ-loop
+enum-told-3 c = search needs
+
+returns-2 : tie.Need-returns-2 Inv-loop μ-loop
+returns-2 c =
+    let d = c .before .before .before in
+    let l = d .before .before in
+    let s = l .before in
+    let p = s .fits .b-period in
+    let n = s .fits .b-distance in
+    let q = s .fits .a-period in
+    let m = s .fits .a-distance in
+    let e = behind-out (b-row s) (a-row s) (rules s) (s .args .from) (l .loop .previous) (there d) (l .loop .inv) (moved d) (said (c .before .before) ∙ c .enum-told3 .given .1) in
+    sym (simp plain at e)
 
 pub inside-back-spec : {M : Type 1} → statement M
 inside-back-spec =
@@ -198,13 +156,11 @@ inside-back-spec =
     loop-holds
     cursor-back-requires
     cursor-back-requires-2
-    cursor-label-requires
-    enum-known-label
-    returns
-    shows-requires
-    returns-2
+    step-at-requires
+    enum-told
     loop-less
     loop-again
-    enum-told
-    loop-less-2
-    loop-again-2)
+    enum-told-2
+    returns
+    enum-told-3
+    returns-2)
