@@ -8,6 +8,8 @@
 --     Instants     an instant with a label, by the row's own cells
 --     Turns        the cells of a turn, as a loop goes over them
 --     Falls        what check 13 asks of labels, cell by cell
+--     Distinct     the granules of a turn by its distinct labels
+--     Runs         runs of equal labels along a row
 pub mod Numbers
 pub mod Cells
 pub mod Cursors
@@ -17,3 +19,5 @@ pub mod Search
 pub mod Instants
 pub mod Turns
 pub mod Falls
+pub mod Distinct
+pub mod Runs

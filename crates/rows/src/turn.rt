@@ -5,7 +5,9 @@ ghost use lib.IntN.{pos};
 ghost use lib.ListN.{length};
 ghost use Rattle.calendar.specs.Checks as C;
 ghost use Rattle.calendar.specs.Checks.{labelsOf};
+ghost use Rattle.calendar.specs.Granules as G;
 ghost use Rattle.calendar.specs.Questions.{given};
+ghost use Rattle.rows.specs.Found.{Sound};
 ghost use Rattle.rows.specs.Turn.{inOrder};
 use calendar::Calendar;
 
@@ -50,6 +52,33 @@ fn in_order(cells: &[i32], distance: i64) -> bool
     let low = first as i64;
     let high = last as i64;
     Calendar::LEAST_LABEL <= low && high <= Calendar::GREATEST_LABEL && high - low <= distance
+}
+
+// How many granules a turn has: the runs of equal labels along the row, less one where the last label is the first of the next turn.
+pub fn granules(cells: &[i32], period: i64, distance: i64) -> i64
+    requires { ⌜ Sound period distance (now cells) ⌝ }
+    ensures { λ r. ⌜ r ≡ pos (G.granules (given period distance (now (cells .entry)))) ⌝ }
+{
+    let mut first = Calendar::EMPTY;
+    let mut last = Calendar::EMPTY;
+    let mut runs: usize = 0;
+    let mut i = 0;
+    while i < cells.len() {
+        let cell = cells[i];
+        i += 1;
+        if cell != Calendar::EMPTY {
+            if cell != last {
+                runs += 1;
+                last = cell;
+                if first == Calendar::EMPTY {
+                    first = cell;
+                }
+            }
+        }
+    }
+    let count = runs as i64;
+    let rise = last as i64 - first as i64;
+    if rise == distance { count - 1 } else { count }
 }
 
 // How many cells have a label.
