@@ -1,0 +1,3 @@
+-- The laws that the questions rest on.
+--     Replies      replies whose checks passed, or failed
+pub mod Replies
