@@ -2,10 +2,23 @@
 // slice and any numbers have an answer or one numbered refusal. What a question asks stands before the row, so that a reader of a row can hand on its fields.
 
 ghost use mathlib.Core.Path.{_≡_};
+ghost use mathlib.Core.Bool.{true};
+ghost use mathlib.Core.Option.{some};
+ghost use lib.IntN.{ℤ, pos};
+ghost use Rattle.integers.specs.Parts.{up};
+ghost use Rattle.calendar.specs.Meaning.{meant};
+ghost use Rattle.calendar.specs.Reply.{require};
+ghost use Rattle.calendar.specs.Reply.Reply.{answer};
+ghost use Rattle.calendar.specs.Granules.{has};
+ghost use Rattle.calendar.specs.Checks.{between};
+ghost use Rattle.calendar.specs.Questions as Q;
 ghost use Rattle.calendar.specs.Questions.{given, upFromInstant};
-ghost use Rattle.questions.specs.Answers.{upReply};
+ghost use Rattle.floats.specs.Allowance as F;
+ghost use Rattle.rows.specs.Found.{Sound, Within, Labelled};
+ghost use Rattle.questions.specs.Answers.{upReply, lateLimit, lateReply, mayBeLate};
 use calendar::Calendar;
 use calendar::Refusal;
+use floats::Allowance;
 use floats::Figures;
 use rows::Found;
 
@@ -44,4 +57,72 @@ pub fn up_instant(t: i64, cells: &[i32], period: i64, distance: i64) -> Up
         Found::At(j) => Up::Label(j),
         Found::Nothing => Up::Nothing,
     }
+}
+
+// The greatest lateness, in instants.
+const LATE_LIMIT: i64 = 1048576;
+
+// d may be a lateness.
+fn is_lateness(d: i64) -> bool
+    ensures { λ r. ⌜ r ≡ between (pos 0) (pos lateLimit) d ⌝ }
+{
+    0 <= d && d <= LATE_LIMIT
+}
+
+// The length of the granule of t: last instant - first instant + 1.
+fn extent(cells: &[i32], period: i64, distance: i64, t: i64) -> u64
+    requires { ⌜ Sound period distance (now cells) ⌝ }
+    requires { ⌜ Labelled (given period distance (now cells)) t ⌝ }
+    ensures { λ r. ⌜ ((j : ℤ) → meant (given period distance (now (cells .entry))) t ≡ some j → r ≡ Q.extent (given period distance (now (cells .entry))) j) ⌝ }
+{
+    let first = rows::first_instant(cells, period, distance, t);
+    let last = rows::last_instant(cells, period, distance, t);
+    (last - first + 1) as u64
+}
+
+// Whether a delivery may be d instants late on z, of a sound row and with numbers within the limits: z may still be no label.
+fn judged(z: i64, d: i64, allowance: Allowance, cells: &[i32], period: i64, distance: i64) -> Late
+    requires { ⌜ Sound period distance (now cells) ⌝ }
+    requires { ⌜ Within 1000000000 z ⌝ }
+    requires { ⌜ between (pos 0) (pos lateLimit) d ≡ true ⌝ }
+    requires { ⌜ F.isAllowed allowance ≡ true ⌝ }
+    ensures { λ r. ⌜ lateReply r ≡ require 15 (has (given period distance (now (cells .entry))) z) (answer (F.mayBeLate (up d) (Q.extent (given period distance (now (cells .entry))) z) allowance)) ⌝ }
+{
+    let at = rows::instant_of(cells, period, distance, z);
+    let Found::At(t) = at else {
+        return Late::Refused(Refusal::NotALabel);
+    };
+    let length = extent(cells, period, distance, t);
+    if floats::may_be_late(d as u64, length, allowance) {
+        Late::Allowed
+    } else {
+        Late::TooLate
+    }
+}
+
+// Whether a delivery may be d instants late on the granule z. Costs one pass over the row, for check 13 and to find the granule, and a walk over the
+// granule.
+pub fn may_be_late(
+    z: i64,
+    d: i64,
+    allowance: Allowance,
+    cells: &[i32],
+    period: i64,
+    distance: i64,
+) -> Late
+    ensures { λ r. ⌜ lateReply r ≡ mayBeLate (given period distance (now (cells .entry))) z d allowance ⌝ }
+{
+    if !rows::turn::sound(cells, period, distance) {
+        return Late::Refused(Refusal::RowNotSound);
+    }
+    if !Calendar::in_range(z) {
+        return Late::Refused(Refusal::ArgumentOutsideLimits);
+    }
+    if !is_lateness(d) {
+        return Late::Refused(Refusal::ArgumentOutsideLimits);
+    }
+    if !floats::allowed(allowance) {
+        return Late::Refused(Refusal::AllowanceNotAllowed);
+    }
+    judged(z, d, allowance, cells, period, distance)
 }
