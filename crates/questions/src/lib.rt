@@ -12,10 +12,10 @@ ghost use Rattle.calendar.specs.Reply.Reply.{answer};
 ghost use Rattle.calendar.specs.Granules.{has};
 ghost use Rattle.calendar.specs.Checks.{between};
 ghost use Rattle.calendar.specs.Questions as Q;
-ghost use Rattle.calendar.specs.Questions.{given, upFromInstant};
+ghost use Rattle.calendar.specs.Questions.{given, upFromInstant, upFromGranule, holder};
 ghost use Rattle.floats.specs.Allowance as F;
-ghost use Rattle.rows.specs.Found.{Sound, Within, Labelled};
-ghost use Rattle.questions.specs.Answers.{upReply, lateLimit, lateReply, mayBeLate};
+ghost use Rattle.rows.specs.Found.{found, Sound, Within, Labelled};
+ghost use Rattle.questions.specs.Answers.{upReply, FiguresOf, lateLimit, lateReply, mayBeLate};
 use calendar::Calendar;
 use calendar::Refusal;
 use floats::Allowance;
@@ -59,6 +59,94 @@ pub fn up_instant(t: i64, cells: &[i32], period: i64, distance: i64) -> Up
     }
 }
 
+// The label of h's granule that contains the whole granule of g at t.
+fn held(
+    t: i64,
+    g_cells: &[i32],
+    g_period: i64,
+    g_distance: i64,
+    h_cells: &[i32],
+    h_period: i64,
+    h_distance: i64,
+) -> Found
+    requires { ⌜ Sound «g_period» «g_distance» (now «g_cells») ⌝ }
+    requires { ⌜ Sound «h_period» «h_distance» (now «h_cells») ⌝ }
+    requires { ⌜ Labelled (given «g_period» «g_distance» (now «g_cells»)) t ⌝ }
+    ensures { λ r. ⌜ ((z : ℤ) → meant (given «g_period» «g_distance» (now («g_cells» .entry))) t ≡ some z → found r ≡ holder (given «g_period» «g_distance» (now («g_cells» .entry))) (given «h_period» «h_distance» (now («h_cells» .entry))) z) ⌝ }
+{
+    let label = rows::label_at(h_cells, h_period, h_distance, t);
+    let Found::At(i) = label else {
+        return Found::Nothing;
+    };
+    if walks::inside(
+        g_cells,
+        g_period,
+        g_distance,
+        h_cells,
+        h_period,
+        h_distance,
+        t,
+    ) {
+        Found::At(i)
+    } else {
+        Found::Nothing
+    }
+}
+
+// The label of the granule of h that contains the whole granule z of g. Costs one pass over each row, for check 13, at most two more over g's,
+// to find the granule, and a walk over the granule.
+pub fn up_granule(
+    z: i64,
+    g_cells: &[i32],
+    g_period: i64,
+    g_distance: i64,
+    h_cells: &[i32],
+    h_period: i64,
+    h_distance: i64,
+) -> Up
+    ensures { λ r. ⌜ upReply r ≡ upFromGranule (given «g_period» «g_distance» (now («g_cells» .entry))) (given «h_period» «h_distance» (now («h_cells» .entry))) z ⌝ }
+{
+    if !rows::turn::sound(g_cells, g_period, g_distance) {
+        return Up::Refused(Refusal::RowNotSound);
+    }
+    if !rows::turn::sound(h_cells, h_period, h_distance) {
+        return Up::Refused(Refusal::RowNotSound);
+    }
+    if !Calendar::in_range(z) {
+        return Up::Refused(Refusal::ArgumentOutsideLimits);
+    }
+    let at = rows::instant_of(g_cells, g_period, g_distance, z);
+    let Found::At(t) = at else {
+        return Up::Refused(Refusal::NotALabel);
+    };
+    let label = held(
+        t,
+        g_cells,
+        g_period,
+        g_distance,
+        h_cells,
+        h_period,
+        h_distance,
+    );
+    match label {
+        Found::At(j) => Up::Label(j),
+        Found::Nothing => Up::Nothing,
+    }
+}
+
+// Openness, mean length and mean spacing. Costs three passes over the row, one of them for check 13.
+pub fn figures(cells: &[i32], period: i64, distance: i64) -> Figured
+    ensures { λ r. ⌜ FiguresOf (given period distance (now (cells .entry))) r ⌝ }
+{
+    if !rows::turn::sound(cells, period, distance) {
+        return Figured::Refused(Refusal::RowNotSound);
+    }
+    let labelled = rows::turn::labelled_instants(cells);
+    let granules = rows::turn::granules(cells, period, distance);
+    let shown = floats::figures_of(labelled as u64, period as u64, granules as u64);
+    Figured::Are(shown)
+}
+
 // The greatest lateness, in instants.
 const LATE_LIMIT: i64 = 1048576;
 
@@ -100,8 +188,8 @@ fn judged(z: i64, d: i64, allowance: Allowance, cells: &[i32], period: i64, dist
     }
 }
 
-// Whether a delivery may be d instants late on the granule z. Costs one pass over the row, for check 13 and to find the granule, and a walk over the
-// granule.
+// Whether a delivery may be d instants late on the granule z. Costs one pass over the row, for check 13, at most two more, to find the granule, and
+// a walk over the granule.
 pub fn may_be_late(
     z: i64,
     d: i64,
