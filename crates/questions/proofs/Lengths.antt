@@ -1,0 +1,43 @@
+-- The length of a granule, and numbers that are cast to u64.
+use mathlib.Core.Path.{_≡_, sym, ap, subst}
+use mathlib.Core.Logic.{_↔_, Iff·rfl}
+use mathlib.Core.Bool.{true}
+use Prim.Native.Nat.{ℕ, _≤_, _<_, _^_}
+use native.Mathlib.Omega.{arith}
+use lib.Dec.{T}
+use lib.IntN.{ℤ, pos, natAbs, _+ℤ_, _-ℤ_}
+use lib.Signed.{_≤ℤ_, nonNeg}
+use mir.Syntax.{w64}
+use mir.Val.{Fits}
+use Rattle.integers.specs.Parts.{up}
+use Rattle.integers.proofs.Linear.{ints, _∴_}
+use Rattle.integers.proofs.Order.{pos-up}
+use Rattle.calendar.specs.Meaning.{Row, meant, Has}
+use Rattle.calendar.specs.Lists.{first, last}
+use Rattle.calendar.specs.Granules.{granule}
+use Rattle.calendar.specs.Checks.{between}
+use Rattle.calendar.specs.Questions.{extent}
+use Rattle.granules.specs.Valid.{Valid}
+use Rattle.granules.proofs.Tests.{and-iff, leZ-iff}
+use Rattle.granules.proofs.Questions.{first-at-most, last-labelled}
+use Rattle.questions.specs.Answers.{lateLimit}
+
+-- last instant − first instant + 1
+pub length-is : (r : Row) → Valid r → (z : ℤ) → Has (meant r) z → (last (granule r z) -ℤ first (granule r z) +ℤ pos 1) ≡ pos (extent r z)
+unfolding extent
+length-is r v z h =
+    sym (pos-up {z = last (granule r z) -ℤ first (granule r z) +ℤ pos 1} (first-at-most r v z (last (granule r z)) (last-labelled r v z h) ∴ simp ints (omega arith)))
+
+-- a natural number as the machine casts it
+pub cast : {x : ℤ} (n : ℕ) → x ≡ pos n → n < 2 ^ 64 → T (nonNeg x) × Fits w64 (natAbs x)
+cast n e h = subst (λ (x : ℤ). T (nonNeg x) × Fits w64 (natAbs x)) (sym e) (tt, omega arith)
+
+-- a lateness is a natural number, at most 1,048,576
+between-iff : (d : ℤ) → (between (pos 0) (pos lateLimit) d ≡ true) ↔ ((pos 0 ≤ℤ d) × (d ≤ℤ pos lateLimit))
+between-iff d = simp (and-iff, leZ-iff) Iff·rfl
+
+pub lateness : (d : ℤ) → between (pos 0) (pos lateLimit) d ≡ true → (d ≡ pos (up d)) × (up d ≤ lateLimit)
+lateness d h =
+    let b = between-iff d .0 h in
+    let e = pos-up {z = d} (b .0) in
+    (sym e, omega (arith, simp ints at (b .1), simp ints at e))

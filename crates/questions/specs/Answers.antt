@@ -1,0 +1,66 @@
+-- The answers of the code, in document 01's numbers and values; and the two questions that speak of binary64 numbers.
+use mathlib.Core.Path.{_≡_}
+use mathlib.Core.Option.{Option, none, some}
+use mathlib.Core.Bool.{Bool, true, false, _&&_}
+use mathlib.Core.List.{List, []}
+use Prim.Native.Nat.{ℕ}
+use lib.IntN.{ℤ, pos}
+use lib.ListN.{length}
+use Rattle.integers.specs.Parts.{up}
+use Rattle.calendar.specs.Meaning.{Row}
+use Rattle.calendar.specs.Reply.{Reply, require}
+use Rattle.calendar.specs.Reply.Reply.{refused, answer}
+use Rattle.calendar.specs.Granules.{has, granules}
+use Rattle.calendar.specs.Checks.{between, inRange, sound}
+use Rattle.calendar.specs.Stored.{filled}
+use Rattle.calendar.specs.Questions.{labelledInstants, extent}
+use Rattle.calendar.specs.Refusals.{numberOf}
+use Rattle.floats.specs.Figures.{Shown}
+use Rattle.floats.specs.Allowance as F
+use Rattle.floats.specs.declared.Allowance.{Allowance}
+use Rattle.questions.specs.declared.Up as Up
+use Rattle.questions.specs.declared.down.Down as Down
+use Rattle.questions.specs.declared.Figured as Figured
+use Rattle.questions.specs.declared.Late as Late
+
+abbrev pub upReply : Up.Up → Reply (Option ℤ)
+upReply (Up.the-variants.Label j) = answer (some j)
+upReply Up.the-variants.Nothing = answer none
+upReply (Up.the-variants.Refused x) = refused (numberOf x)
+
+-- how many the parts are
+abbrev pub counted : Reply (List ℤ) → Reply ℕ
+counted (refused n) = refused n
+counted (answer l) = answer (length l)
+
+abbrev pub partsReply : Down.Down → Reply ℕ
+partsReply (Down.the-variants.Parts n) = answer n
+partsReply (Down.the-variants.Refused x) = refused (numberOf x)
+
+-- "the rest of the list is zero, and a refusal makes it all zero": a list of n numbers
+abbrev pub partsAfter : ℕ → Reply (List ℤ) → List ℤ
+partsAfter n (refused m) = filled n (pos 0) []
+partsAfter n (answer l) = filled n (pos 0) l
+
+-- the figures of a row: 13, or labelled instants per period / P, the same / R, and P / R
+abbrev pub FiguresOf : Row → Figured.Figured → Type 0
+FiguresOf r (Figured.the-variants.Are v) = (sound r ≡ true) × Shown (labelledInstants r) (r .period) (granules r) v
+FiguresOf r (Figured.the-variants.Refused x) = (sound r ≡ false) × (numberOf x ≡ 13)
+
+-- "lateness outside 0 to 1,048,576"
+abbrev pub lateLimit : ℕ
+lateLimit = 1048576
+
+-- "may a delivery be d instants late on slot z?"
+unfoldable pub mayBeLate : Row → ℤ → ℤ → Allowance → Reply Bool
+mayBeLate r z d a =
+    require 13 (sound r)
+    (require 14 (inRange z && between (pos 0) (pos lateLimit) d)
+    (require 18 (F.isAllowed a)
+    (require 15 (has r z)
+    (answer (F.mayBeLate (up d) (extent r z) a)))))
+
+abbrev pub lateReply : Late.Late → Reply Bool
+lateReply Late.the-variants.Allowed = answer true
+lateReply Late.the-variants.TooLate = answer false
+lateReply (Late.the-variants.Refused x) = refused (numberOf x)

@@ -1,0 +1,216 @@
+// Questions to a row that is handed in with its period and distance: up, figures and lateness; down is in its own file. Nothing is asked of the caller: any
+// slice and any numbers have an answer or one numbered refusal. What a question asks stands before the row, so that a reader of a row can hand on its fields.
+
+ghost use mathlib.Core.Path.{_≡_};
+ghost use mathlib.Core.Bool.{true};
+ghost use mathlib.Core.Option.{some};
+ghost use lib.IntN.{ℤ, pos};
+ghost use Rattle.integers.specs.Parts.{up};
+ghost use Rattle.calendar.specs.Meaning.{meant};
+ghost use Rattle.calendar.specs.Reply.{require};
+ghost use Rattle.calendar.specs.Reply.Reply.{answer};
+ghost use Rattle.calendar.specs.Granules.{has};
+ghost use Rattle.calendar.specs.Checks.{between};
+ghost use Rattle.calendar.specs.Questions as Q;
+ghost use Rattle.calendar.specs.Questions.{given, upFromInstant, upFromGranule, holder};
+ghost use Rattle.floats.specs.Allowance as F;
+ghost use Rattle.rows.specs.Found.{found, Sound, Within, Labelled};
+ghost use Rattle.questions.specs.Answers.{upReply, FiguresOf, lateLimit, lateReply, mayBeLate};
+use calendar::Calendar;
+use calendar::Refusal;
+use floats::Allowance;
+use floats::Figures;
+use rows::Found;
+
+pub mod down;
+
+// The label of a granule that holds what was asked about, or none.
+pub enum Up {
+    Label(i64),
+    Nothing,
+    Refused(Refusal),
+}
+
+pub enum Figured {
+    Are(Figures),
+    Refused(Refusal),
+}
+
+pub enum Late {
+    Allowed,
+    TooLate,
+    Refused(Refusal),
+}
+
+// The label of the instant t. Costs one pass over the row, for check 13.
+pub fn up_instant(t: i64, cells: &[i32], period: i64, distance: i64) -> Up
+    ensures { λ r. ⌜ upReply r ≡ upFromInstant (given period distance (now (cells .entry))) t ⌝ }
+{
+    if !rows::turn::sound(cells, period, distance) {
+        return Up::Refused(Refusal::RowNotSound);
+    }
+    if !Calendar::in_range(t) {
+        return Up::Refused(Refusal::ArgumentOutsideLimits);
+    }
+    let label = rows::label_at(cells, period, distance, t);
+    match label {
+        Found::At(j) => Up::Label(j),
+        Found::Nothing => Up::Nothing,
+    }
+}
+
+// The label of h's granule that contains the whole granule of g at t.
+fn held(
+    t: i64,
+    g_cells: &[i32],
+    g_period: i64,
+    g_distance: i64,
+    h_cells: &[i32],
+    h_period: i64,
+    h_distance: i64,
+) -> Found
+    requires { ⌜ Sound «g_period» «g_distance» (now «g_cells») ⌝ }
+    requires { ⌜ Sound «h_period» «h_distance» (now «h_cells») ⌝ }
+    requires { ⌜ Labelled (given «g_period» «g_distance» (now «g_cells»)) t ⌝ }
+    ensures { λ r. ⌜ ((z : ℤ) → meant (given «g_period» «g_distance» (now («g_cells» .entry))) t ≡ some z → found r ≡ holder (given «g_period» «g_distance» (now («g_cells» .entry))) (given «h_period» «h_distance» (now («h_cells» .entry))) z) ⌝ }
+{
+    let label = rows::label_at(h_cells, h_period, h_distance, t);
+    let Found::At(i) = label else {
+        return Found::Nothing;
+    };
+    if walks::inside(
+        g_cells,
+        g_period,
+        g_distance,
+        h_cells,
+        h_period,
+        h_distance,
+        t,
+    ) {
+        Found::At(i)
+    } else {
+        Found::Nothing
+    }
+}
+
+// The label of the granule of h that contains the whole granule z of g. Costs one pass over each row, for check 13, at most two more over g's,
+// to find the granule, and a walk over the granule.
+pub fn up_granule(
+    z: i64,
+    g_cells: &[i32],
+    g_period: i64,
+    g_distance: i64,
+    h_cells: &[i32],
+    h_period: i64,
+    h_distance: i64,
+) -> Up
+    ensures { λ r. ⌜ upReply r ≡ upFromGranule (given «g_period» «g_distance» (now («g_cells» .entry))) (given «h_period» «h_distance» (now («h_cells» .entry))) z ⌝ }
+{
+    if !rows::turn::sound(g_cells, g_period, g_distance) {
+        return Up::Refused(Refusal::RowNotSound);
+    }
+    if !rows::turn::sound(h_cells, h_period, h_distance) {
+        return Up::Refused(Refusal::RowNotSound);
+    }
+    if !Calendar::in_range(z) {
+        return Up::Refused(Refusal::ArgumentOutsideLimits);
+    }
+    let at = rows::instant_of(g_cells, g_period, g_distance, z);
+    let Found::At(t) = at else {
+        return Up::Refused(Refusal::NotALabel);
+    };
+    let label = held(
+        t,
+        g_cells,
+        g_period,
+        g_distance,
+        h_cells,
+        h_period,
+        h_distance,
+    );
+    match label {
+        Found::At(j) => Up::Label(j),
+        Found::Nothing => Up::Nothing,
+    }
+}
+
+// Openness, mean length and mean spacing. Costs three passes over the row, one of them for check 13.
+pub fn figures(cells: &[i32], period: i64, distance: i64) -> Figured
+    ensures { λ r. ⌜ FiguresOf (given period distance (now (cells .entry))) r ⌝ }
+{
+    if !rows::turn::sound(cells, period, distance) {
+        return Figured::Refused(Refusal::RowNotSound);
+    }
+    let labelled = rows::turn::labelled_instants(cells);
+    let granules = rows::turn::granules(cells, period, distance);
+    let shown = floats::figures_of(labelled as u64, period as u64, granules as u64);
+    Figured::Are(shown)
+}
+
+// The greatest lateness, in instants.
+const LATE_LIMIT: i64 = 1048576;
+
+// d may be a lateness.
+fn is_lateness(d: i64) -> bool
+    ensures { λ r. ⌜ r ≡ between (pos 0) (pos lateLimit) d ⌝ }
+{
+    0 <= d && d <= LATE_LIMIT
+}
+
+// The length of the granule of t: last instant - first instant + 1.
+fn extent(cells: &[i32], period: i64, distance: i64, t: i64) -> u64
+    requires { ⌜ Sound period distance (now cells) ⌝ }
+    requires { ⌜ Labelled (given period distance (now cells)) t ⌝ }
+    ensures { λ r. ⌜ ((j : ℤ) → meant (given period distance (now (cells .entry))) t ≡ some j → r ≡ Q.extent (given period distance (now (cells .entry))) j) ⌝ }
+{
+    let first = rows::first_instant(cells, period, distance, t);
+    let last = rows::last_instant(cells, period, distance, t);
+    (last - first + 1) as u64
+}
+
+// Whether a delivery may be d instants late on z, of a sound row and with numbers within the limits: z may still be no label.
+fn judged(z: i64, d: i64, allowance: Allowance, cells: &[i32], period: i64, distance: i64) -> Late
+    requires { ⌜ Sound period distance (now cells) ⌝ }
+    requires { ⌜ Within 1000000000 z ⌝ }
+    requires { ⌜ between (pos 0) (pos lateLimit) d ≡ true ⌝ }
+    requires { ⌜ F.isAllowed allowance ≡ true ⌝ }
+    ensures { λ r. ⌜ lateReply r ≡ require 15 (has (given period distance (now (cells .entry))) z) (answer (F.mayBeLate (up d) (Q.extent (given period distance (now (cells .entry))) z) allowance)) ⌝ }
+{
+    let at = rows::instant_of(cells, period, distance, z);
+    let Found::At(t) = at else {
+        return Late::Refused(Refusal::NotALabel);
+    };
+    let length = extent(cells, period, distance, t);
+    if floats::may_be_late(d as u64, length, allowance) {
+        Late::Allowed
+    } else {
+        Late::TooLate
+    }
+}
+
+// Whether a delivery may be d instants late on the granule z. Costs one pass over the row, for check 13, at most two more, to find the granule, and
+// a walk over the granule.
+pub fn may_be_late(
+    z: i64,
+    d: i64,
+    allowance: Allowance,
+    cells: &[i32],
+    period: i64,
+    distance: i64,
+) -> Late
+    ensures { λ r. ⌜ lateReply r ≡ mayBeLate (given period distance (now (cells .entry))) z d allowance ⌝ }
+{
+    if !rows::turn::sound(cells, period, distance) {
+        return Late::Refused(Refusal::RowNotSound);
+    }
+    if !Calendar::in_range(z) {
+        return Late::Refused(Refusal::ArgumentOutsideLimits);
+    }
+    if !is_lateness(d) {
+        return Late::Refused(Refusal::ArgumentOutsideLimits);
+    }
+    if !floats::allowed(allowance) {
+        return Late::Refused(Refusal::AllowanceNotAllowed);
+    }
+    judged(z, d, allowance, cells, period, distance)
+}
