@@ -12,9 +12,9 @@ ghost use Rattle.calendar.specs.Reply.Reply.{answer};
 ghost use Rattle.calendar.specs.Granules.{has};
 ghost use Rattle.calendar.specs.Checks.{between};
 ghost use Rattle.calendar.specs.Questions as Q;
-ghost use Rattle.calendar.specs.Questions.{given, upFromInstant, upFromGranule, holder};
+ghost use Rattle.calendar.specs.Questions.{given, upFromInstant, upFromGranule};
 ghost use Rattle.floats.specs.Allowance as F;
-ghost use Rattle.rows.specs.Found.{found, Sound, Within, Labelled};
+ghost use Rattle.rows.specs.Found.{Sound, Within, Labelled};
 ghost use Rattle.questions.specs.Answers.{upReply, FiguresOf, lateLimit, lateReply, mayBeLate};
 use calendar::Calendar;
 use calendar::Refusal;
@@ -59,40 +59,6 @@ pub fn up_instant(t: i64, cells: &[i32], period: i64, distance: i64) -> Up
     }
 }
 
-// The label of h's granule that contains the whole granule of g at t.
-fn held(
-    t: i64,
-    g_cells: &[i32],
-    g_period: i64,
-    g_distance: i64,
-    h_cells: &[i32],
-    h_period: i64,
-    h_distance: i64,
-) -> Found
-    requires { ⌜ Sound «g_period» «g_distance» (now «g_cells») ⌝ }
-    requires { ⌜ Sound «h_period» «h_distance» (now «h_cells») ⌝ }
-    requires { ⌜ Labelled (given «g_period» «g_distance» (now «g_cells»)) t ⌝ }
-    ensures { λ r. ⌜ ((z : ℤ) → meant (given «g_period» «g_distance» (now («g_cells» .entry))) t ≡ some z → found r ≡ holder (given «g_period» «g_distance» (now («g_cells» .entry))) (given «h_period» «h_distance» (now («h_cells» .entry))) z) ⌝ }
-{
-    let label = rows::label_at(h_cells, h_period, h_distance, t);
-    let Found::At(i) = label else {
-        return Found::Nothing;
-    };
-    if walks::inside(
-        g_cells,
-        g_period,
-        g_distance,
-        h_cells,
-        h_period,
-        h_distance,
-        t,
-    ) {
-        Found::At(i)
-    } else {
-        Found::Nothing
-    }
-}
-
 // The label of the granule of h that contains the whole granule z of g. Costs one pass over each row, for check 13, at most two more over g's,
 // to find the granule, and a walk over the granule.
 pub fn up_granule(
@@ -119,14 +85,14 @@ pub fn up_granule(
     let Found::At(t) = at else {
         return Up::Refused(Refusal::NotALabel);
     };
-    let label = held(
-        t,
+    let label = walks::holder(
         g_cells,
         g_period,
         g_distance,
         h_cells,
         h_period,
         h_distance,
+        t,
     );
     match label {
         Found::At(j) => Up::Label(j),

@@ -1,4 +1,4 @@
--- `questions::up_granule` meets its contract: 13 twice, 14, 15, then what `held` says of an instant of the granule.
+-- `questions::up_granule` meets its contract: 13 twice, 14, 15, then what `walks::holder` says of an instant of the granule.
 use borrow.Author.Needs.{needs, sfits-of}
 use mathlib.Core.Path.{_≡_, sym, _∙_, ap}
 use mathlib.Core.Bool.{true}
@@ -154,8 +154,8 @@ is-label c = ap isSome (is-found c)
 near : (c : tie.After-known-told) → Within (2 ^ 59) (instant c)
 near c = c .before .before .before .instant-of .ensures .1 (instant c) (ap found (c .before .at .given .1)) ∴ simp ints (omega arith)
 
-held-requires : tie.Need-held-requires
-held-requires c κs =
+holder-requires : tie.Need-holder-requires
+holder-requires c κs =
     let s = begun (checked c) in
     let p = s .fits .g-period in
     let n = s .fits .g-distance in
@@ -170,7 +170,7 @@ enum-known-label c = search needs
 enum-told-2 : tie.Need-enum-told-2
 enum-told-2 c = search needs
 
-replied : (c : tie.After-held) → let s = begun (checked (c .before)) in upFromGranule (g-row s) (h-row s) (s .args .z) ≡ answer (found (c .held .result))
+replied : (c : tie.After-holder) → let s = begun (checked (c .before)) in upFromGranule (g-row s) (h-row s) (s .args .z) ≡ answer (found (c .holder .result))
 replied c =
     let k = c .before in
     let s = begun (checked k) in
@@ -179,7 +179,7 @@ replied c =
     let q = s .fits .h-period in
     let m = s .fits .h-distance in
     let t : SFits w64 (instant k) = sfits-of (k .known-told .given .0 .1) in
-    left (checked k) ∙ passed 15 _ (is-label k) ∙ ap answer (sym ((simp plain at (c .held .ensures)) (s .args .z) (labelled k)))
+    left (checked k) ∙ passed 15 _ (is-label k) ∙ ap answer (sym ((simp plain at (c .holder .ensures)) (s .args .z) (labelled k)))
 
 returns-5 : tie.Need-returns-5
 returns-5 c =
@@ -203,7 +203,7 @@ up-granule-spec =
     enum-known-at
     enum-told
     returns-4
-    held-requires
+    holder-requires
     enum-known-label
     enum-told-2
     returns-5
