@@ -19,7 +19,7 @@ use Rattle.floats.specs.Figures.{Shown}
 use Rattle.floats.specs.Allowance as F
 use Rattle.floats.specs.declared.Allowance.{Allowance}
 use Rattle.questions.specs.declared.Up as Up
-use Rattle.questions.specs.declared.down.Down as Down
+use Rattle.questions.specs.declared.down.Parted as Parted
 use Rattle.questions.specs.declared.Figured as Figured
 use Rattle.questions.specs.declared.Late as Late
 
@@ -33,9 +33,9 @@ abbrev pub counted : Reply (List ℤ) → Reply ℕ
 counted (refused n) = refused n
 counted (answer l) = answer (length l)
 
-abbrev pub partsReply : Down.Down → Reply ℕ
-partsReply (Down.the-variants.Parts n) = answer n
-partsReply (Down.the-variants.Refused x) = refused (numberOf x)
+abbrev pub partsReply : Parted.Parted → Reply ℕ
+partsReply (Parted.the-variants.Parts n) = answer n
+partsReply (Parted.the-variants.Refused x) = refused (numberOf x)
 
 -- "the rest of the list is zero, and a refusal makes it all zero": a list of n numbers
 abbrev pub partsAfter : ℕ → Reply (List ℤ) → List ℤ
