@@ -1,0 +1,179 @@
+// Questions to a row, for C. Each answers with one number, which is below zero for a refusal: the refusal's number with the sign changed. What else
+// there is to say is left behind pointers, which hold zeros after a refusal. The header include/jogipahn.h declares the functions.
+
+ghost use mathlib.Core.Path.{_≡_};
+ghost use lib.ListN.{length};
+ghost use Rattle.calendar.specs.Refusals.{numberOf};
+ghost use Rattle.calendar.specs.Questions.{given};
+ghost use Rattle.calendar.specs.Questions as Q;
+ghost use Rattle.questions.specs.Answers.{upReply, counted, partsAfter, mayBeLate};
+ghost use Rattle.c_api.specs.Codes.{refusalCode, upCode, upLabel, downCode, FiguresLeft, lateCode, allowanceOf};
+use calendar::Refusal;
+use floats::Allowance;
+use questions::Figured;
+use questions::Late;
+use questions::Up;
+use questions::down::Parted;
+
+// A refusal as a number.
+fn refusal_code(x: Refusal) -> i64
+    ensures { λ r. ⌜ r ≡ refusalCode (numberOf x) ⌝ }
+{
+    0 - (x.number() as i64)
+}
+
+// An answer of up: 1 with a label, which goes into `label`, and 0 with none.
+fn told(up: Up, label: &mut i64) -> i64
+    ensures code { λ r. ⌜ r ≡ upCode (upReply up) ⌝ }
+    ensures label { λ r. ⌜ now (label .exit) ≡ upLabel (upReply up) ⌝ }
+{
+    match up {
+        Up::Label(j) => {
+            *label = j;
+            1
+        }
+        Up::Nothing => {
+            *label = 0;
+            0
+        }
+        Up::Refused(x) => {
+            *label = 0;
+            refusal_code(x)
+        }
+    }
+}
+
+// The label of the instant t, in `label`: 1; or 0 if it has none.
+#[no_mangle]
+pub extern "C" fn jogipahn_up_instant(
+    cells: &[i32],
+    period: i64,
+    distance: i64,
+    t: i64,
+    label: &mut i64,
+) -> i64
+    ensures code { λ r. ⌜ r ≡ upCode (Q.upFromInstant (given period distance (now (cells .entry))) t) ⌝ }
+    ensures label { λ r. ⌜ now (label .exit) ≡ upLabel (Q.upFromInstant (given period distance (now (cells .entry))) t) ⌝ }
+{
+    let up = questions::up_instant(t, cells, period, distance);
+    told(up, label)
+}
+
+// The label of the granule of h that contains the whole granule z of g, in `label`: 1; or 0 if there is none.
+#[no_mangle]
+pub extern "C" fn jogipahn_up_granule(
+    g_cells: &[i32],
+    g_period: i64,
+    g_distance: i64,
+    h_cells: &[i32],
+    h_period: i64,
+    h_distance: i64,
+    z: i64,
+    label: &mut i64,
+) -> i64
+    ensures code { λ r. ⌜ r ≡ upCode (Q.upFromGranule (given «g_period» «g_distance» (now («g_cells» .entry))) (given «h_period» «h_distance» (now («h_cells» .entry))) z) ⌝ }
+    ensures label { λ r. ⌜ now (label .exit) ≡ upLabel (Q.upFromGranule (given «g_period» «g_distance» (now («g_cells» .entry))) (given «h_period» «h_distance» (now («h_cells» .entry))) z) ⌝ }
+{
+    let up = questions::up_granule(
+        z,
+        g_cells,
+        g_period,
+        g_distance,
+        h_cells,
+        h_period,
+        h_distance,
+    );
+    told(up, label)
+}
+
+// The labels of g's granules that make up the granule z of h, rising, in `parts`, with zeros behind them: how many there are.
+#[no_mangle]
+pub extern "C" fn jogipahn_down(
+    h_cells: &[i32],
+    h_period: i64,
+    h_distance: i64,
+    g_cells: &[i32],
+    g_period: i64,
+    g_distance: i64,
+    z: i64,
+    parts: &mut [i64],
+) -> i64
+    ensures code { λ r. ⌜ r ≡ downCode (counted (Q.down (given «h_period» «h_distance» (now («h_cells» .entry))) (given «g_period» «g_distance» (now («g_cells» .entry))) z (length (now (parts .entry))))) ⌝ }
+    ensures list { λ r. ⌜ now (parts .exit) ≡ partsAfter (length (now (parts .entry))) (Q.down (given «h_period» «h_distance» (now («h_cells» .entry))) (given «g_period» «g_distance» (now («g_cells» .entry))) z (length (now (parts .entry)))) ⌝ }
+{
+    let parted = questions::down::down(
+        z,
+        &mut *parts,
+        h_cells,
+        h_period,
+        h_distance,
+        g_cells,
+        g_period,
+        g_distance,
+    );
+    match parted {
+        Parted::Parts(n) => n as i64,
+        Parted::Refused(x) => refusal_code(x),
+    }
+}
+
+// The open part of the row, the mean length of its granules and their mean spacing: 0.
+#[no_mangle]
+pub extern "C" fn jogipahn_figures(
+    cells: &[i32],
+    period: i64,
+    distance: i64,
+    openness: &mut f64,
+    length: &mut f64,
+    spacing: &mut f64,
+) -> i64
+    ensures { λ r. ⌜ FiguresLeft (given period distance (now (cells .entry))) r (now (openness .exit)) (now (length .exit)) (now (spacing .exit)) ⌝ }
+{
+    let figured = questions::figures(cells, period, distance);
+    match figured {
+        Figured::Are(v) => {
+            *openness = v.openness;
+            *length = v.mean_length;
+            *spacing = v.mean_spacing;
+            0
+        }
+        Figured::Refused(x) => {
+            *openness = 0.0;
+            *length = 0.0;
+            *spacing = 0.0;
+            refusal_code(x)
+        }
+    }
+}
+
+// The allowance of a rule: 0 a fixed number of instants, 1 a share. Any other has one that is never allowed, so that it is refused in its turn.
+fn allowance_of(rule: i64, amount: f64) -> Allowance
+    ensures { λ r. ⌜ r ≡ allowanceOf rule amount ⌝ }
+{
+    match rule {
+        0 => Allowance::Fixed(amount),
+        1 => Allowance::Share(amount),
+        _ => Allowance::Fixed(-1.0),
+    }
+}
+
+// Whether a delivery may be d instants late on the granule z: 1 for yes, 0 for no.
+#[no_mangle]
+pub extern "C" fn jogipahn_may_be_late(
+    cells: &[i32],
+    period: i64,
+    distance: i64,
+    z: i64,
+    d: i64,
+    rule: i64,
+    amount: f64,
+) -> i64
+    ensures { λ r. ⌜ r ≡ lateCode (mayBeLate (given period distance (now (cells .entry))) z d (allowanceOf rule amount)) ⌝ }
+{
+    let late = questions::may_be_late(z, d, allowance_of(rule, amount), cells, period, distance);
+    match late {
+        Late::Allowed => 1,
+        Late::TooLate => 0,
+        Late::Refused(x) => refusal_code(x),
+    }
+}
