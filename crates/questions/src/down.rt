@@ -1,11 +1,9 @@
 // Down: the granules of one row that make up a granule of another.
 
 ghost use mathlib.Core.Path.{_≡_};
-ghost use mathlib.Core.Option.{some};
 ghost use Prim.Native.Nat.{_^_};
-ghost use lib.IntN.{ℤ, pos};
+ghost use lib.IntN.{pos};
 ghost use lib.ListN.{length, replicate};
-ghost use Rattle.calendar.specs.Meaning.{meant};
 ghost use Rattle.calendar.specs.Questions.{given};
 ghost use Rattle.calendar.specs.Questions as Q;
 ghost use Rattle.rows.specs.Found.{Sound, Within};
@@ -23,10 +21,11 @@ pub enum Parted {
     Refused(Refusal),
 }
 
-// What an instant of a granule says of its parts: it is in the latest part, or in the next one, or in none that lies in the granule.
+// What an instant says of the parts of a granule: none begins there, the next one does, the granule is over, or it is in no part.
 enum Part {
-    Same,
+    Nothing,
     Next(i64),
+    End,
     Broken,
 }
 
@@ -47,10 +46,13 @@ fn clear(parts: &mut [i64])
     }
 }
 
-// What the instant t of a granule of h, with g's cursor, says of the parts, of which there are `count` before it, the latest of them `latest`.
+// What the instant t, with its cursors, says of the parts of h's granule z, which began before it: there are `count` so far, the latest of
+// them `latest`.
 fn part_at(
+    z: i64,
     t: i64,
-    cursor: Cursor,
+    h: Cursor,
+    g: Cursor,
     count: usize,
     latest: i64,
     h_cells: &[i32],
@@ -63,20 +65,27 @@ fn part_at(
     requires { ⌜ Sound «h_period» «h_distance» (now «h_cells») ⌝ }
     requires { ⌜ Sound «g_period» «g_distance» (now «g_cells») ⌝ }
     requires { ⌜ Within (2 ^ 59) t ⌝ }
-    requires { ⌜ cursor ≡ cursorAt (given «g_period» «g_distance» (now «g_cells»)) t ⌝ }
-    requires { ⌜ ((z : ℤ) × (meant (given «h_period» «h_distance» (now «h_cells»)) t ≡ some z)) ⌝ }
-    ensures { λ r. ⌜ ((z : ℤ) → meant (given «h_period» «h_distance» (now («h_cells» .entry))) t ≡ some z → PartAt (given «h_period» «h_distance» (now («h_cells» .entry))) (given «g_period» «g_distance» (now («g_cells» .entry))) z t count latest r) ⌝ }
+    requires { ⌜ h ≡ cursorAt (given «h_period» «h_distance» (now «h_cells»)) t ⌝ }
+    requires { ⌜ g ≡ cursorAt (given «g_period» «g_distance» (now «g_cells»)) t ⌝ }
+    ensures { λ r. ⌜ PartAt (given «h_period» «h_distance» (now («h_cells» .entry))) (given «g_period» «g_distance» (now («g_cells» .entry))) z t count latest r ⌝ }
 {
-    let label = rows::cursor_label(g_cells, g_period, g_distance, cursor);
+    let own = rows::cursor_label(h_cells, h_period, h_distance, h);
+    let Found::At(j) = own else {
+        return Part::Nothing;
+    };
+    if j != z {
+        return Part::End;
+    }
+    let label = rows::cursor_label(g_cells, g_period, g_distance, g);
     let Found::At(k) = label else {
         return Part::Broken;
     };
     if k == latest {
         if count > 0 {
-            return Part::Same;
+            return Part::Nothing;
         }
     }
-    if walks::inside(
+    let whole = walks::inside(
         g_cells,
         g_period,
         g_distance,
@@ -84,11 +93,8 @@ fn part_at(
         h_period,
         h_distance,
         t,
-    ) {
-        Part::Next(k)
-    } else {
-        Part::Broken
-    }
+    );
+    if whole { Part::Next(k) } else { Part::Broken }
 }
 
 // The parts of h's granule z, whose first instant is `first`, into the cleared list, as many as it has room for; all are counted.
@@ -118,40 +124,32 @@ fn parts_of(
         h = rows::cursor_next(h_cells, h_period, h_distance, h);
         g = rows::cursor_next(g_cells, g_period, g_distance, g);
         at += 1;
-        let label = rows::cursor_label(h_cells, h_period, h_distance, h);
-        match label {
-            Found::At(j) => {
-                if j != z {
-                    return Walked::Parts(count);
-                }
-                let part = part_at(
-                    at,
-                    g,
-                    count,
-                    latest,
-                    h_cells,
-                    h_period,
-                    h_distance,
-                    g_cells,
-                    g_period,
-                    g_distance,
-                );
-                match part {
-                    Part::Next(k) => {
-                        let i = count;
-                        count += 1;
-                        latest = k;
-                        if i < parts.len() {
-                            parts[i] = k;
-                        }
-                    }
-                    Part::Same => {}
-                    Part::Broken => {
-                        return Walked::Incomplete;
-                    }
+        let part = part_at(
+            z,
+            at,
+            h,
+            g,
+            count,
+            latest,
+            h_cells,
+            h_period,
+            h_distance,
+            g_cells,
+            g_period,
+            g_distance,
+        );
+        match part {
+            Part::Next(k) => {
+                let i = count;
+                count += 1;
+                latest = k;
+                if i < parts.len() {
+                    parts[i] = k;
                 }
             }
-            Found::Nothing => {}
+            Part::Nothing => {}
+            Part::End => return Walked::Parts(count),
+            Part::Broken => return Walked::Incomplete,
         }
     }
 }

@@ -2,8 +2,8 @@
 -- Assumes nothing.
 use borrow.Author.Needs.{needs, sfits-of}
 use mathlib.Core.Path.{_≡_, refl, sym, _∙_, ap, subst}
+use mathlib.Core.Logic.{⊎-elim}
 use mathlib.Core.List.{List, [], _∷_, _++_}
-use mathlib.Core.Option.{some}
 use Prim.Native.Nat.{ℕ, _+_, _<_, _≤_, _^_}
 use native.Mathlib.Omega.{arith}
 use lib.IntN.{ℤ, pos, _+ℤ_, _-ℤ_}
@@ -14,15 +14,15 @@ use mir.Val.{toZ, ofZ, SFits}
 use Rattle.integers.specs.Parts.{up}
 use Rattle.integers.proofs.Linear.{ints, _∴_}
 use Rattle.integers.proofs.Machine.{plain}
-use Rattle.calendar.specs.Meaning.{Row, meant}
+use Rattle.calendar.specs.Meaning.{Row}
 use Rattle.calendar.specs.Questions.{given}
 use Rattle.granules.specs.Valid.{Valid}
-use Rattle.rows.specs.Found.{Sound, Near, Within, found}
+use Rattle.rows.specs.Found.{Sound, Near, Within}
 use Rattle.rows.specs.Cursor.{cursorAt}
 use Rattle.rows.proofs.Numbers.{numbers, valid}
 use Rattle.questions.specs.declared.down.Part.{Part}
-use Rattle.questions.specs.declared.down.Part.the-variants.{Next, Same, Broken}
-use Rattle.questions.specs.declared.down.Walked.the-variants.{Parts, Incomplete}
+use Rattle.questions.specs.declared.down.Part.the-variants.{Next}
+use Rattle.questions.specs.declared.down.Walked.the-variants.{Parts}
 use Rattle.questions.specs.Walk.{Begins, PartAt, Walks}
 use Rattle.questions.proofs.Cleared.{Shows, shows-nothing, shows-past, shows-more}
 use Rattle.questions.proofs.Walk.{Walk, ahead, walk-start, walk-few, walk-less, walk-past, walk-same, walk-next, walk-broken, walk-made, walk-parts}
@@ -118,9 +118,6 @@ near c =
     let n = numbers (toZ w64 (ofZ w64 (s .args .h-period))) (toZ w64 (ofZ w64 (s .args .h-distance))) (s .args .h-cells .now) (h-sound s) in
     l .0 ∴ l .1 ∴ n .high ∴ c .loop .inv .low ∴ c .loop .inv .high ∴ simp ints (omega arith)
 
-near-next : (c : tie.At-loop Inv-loop μ-loop) → Near (here c +ℤ pos 1)
-near-next c = let l = near c .1 in l .0 ∴ l .1 ∴ simp ints (omega arith)
-
 cursor-next-requires : tie.Need-cursor-next-requires Inv-loop μ-loop
 cursor-next-requires c κs = (h-sound (begun c), (here c, near c .0, c .loop .inv .h-cursor))
 
@@ -143,62 +140,12 @@ h-next c = c .before .cursor-next .ensures (here (c .before .before)) (c .before
 g-next : (c : tie.After-cursor-next2 Inv-loop μ-loop) → c .cursor-next2 .result ≡ cursorAt (g-row (begun (c .before .before))) (next c)
 g-next c = c .cursor-next2 .ensures (here (c .before .before)) (c .before .before .loop .inv .g-cursor) ∙ ap (cursorAt (g-row (begun (c .before .before)))) (sym (next-is c))
 
-cursor-label-requires : tie.Need-cursor-label-requires Inv-loop μ-loop
-cursor-label-requires c κs = (h-sound (begun (c .before .before)), (next c, subst Near (sym (next-is c)) (near-next (c .before .before)), h-next c))
-
-enum-known-label : tie.Need-enum-known-label Inv-loop μ-loop
-enum-known-label c = search needs
-
-label-is : (d : tie.After-cursor-label Inv-loop μ-loop) → meant (h-row (begun (d .before .before .before))) (next (d .before)) ≡ found (d .cursor-label .result)
-label-is d = sym (d .cursor-label .ensures (next (d .before)) (h-next (d .before)))
-
--- where it has a label
-abbrev at-next : tie.After-known-told Inv-loop μ-loop → tie.After-cursor-next2 Inv-loop μ-loop
-at-next c = c .before .before .before .before
-
-abbrev at-loop : tie.After-known-told Inv-loop μ-loop → tie.At-loop Inv-loop μ-loop
-at-loop c = at-next c .before .before
-
-label-fits : (c : tie.After-known-told Inv-loop μ-loop) → SFits w64 (c .before .label .given .0 .0)
-label-fits c = sfits-of (c .known-told .given .0 .1)
-
-label-some : (c : tie.After-known-told Inv-loop μ-loop) → meant (h-row (begun (at-loop c))) (next (at-next c)) ≡ some (toZ w64 (ofZ w64 (c .before .label .given .0 .0)))
-label-some c = label-is (c .before .before .before) ∙ ap found (c .before .label .given .1) ∙ ap some (sym (toZ-ofZ (label-fits c)))
-
--- ---- another label
-
-same-length : tie.Need-same-length Inv-loop μ-loop
-same-length c = at-loop (c .before) .loop .inv .whole
-
-returns : tie.Need-returns Inv-loop μ-loop
-returns c =
-    let k = c .before in
-    let n = at-next k in
-    let l = at-loop k in
-    let s = begun l in
-    let p = s .fits .h-period in
-    let d = s .fits .h-distance in
-    let q = s .fits .g-period in
-    let m = s .fits .g-distance in
-    let z = s .fits .z in
-    let b = l .loop .inv in
-    let other : toZ w64 (ofZ w64 (k .before .label .given .0 .0)) ≡ Z s → ⊥ = λ e. c .if1 .taken (ap (ofZ w64) (sym (toZ-ofZ (label-fits k)) ∙ e ∙ toZ-ofZ z)) in
-    let made = walk-made (h-row s) (g-row s) (h-rules s) (g-rules s) (Z s) (T s) (begins s) _ _ _ _ _ _ _ _ _ _ b (h-next n) (g-next n) (next-is n) _ (label-some k) other in
-    let same = walk-parts (h-row s) (g-row s) (h-rules s) (g-rules s) (Z s) (T s) (begins s) _ _ _ _ _ _ _ _ _ _ b (h-next n) (g-next n) (next-is n) _ (label-some k) other in
-    let x : Walks (h-row s) (g-row s) (Z s) (l .loop .parts) (Parts (l .loop .count)) =
-    (made, (b .count-is ∙ ap length same, subst (λ (a : List ℤ). Shows (l .loop .parts) a) same (b .shows))) in
-    simp plain at x
-
--- ---- the granule's own label
-
-own-label : (c : tie.Else1 Inv-loop μ-loop) → meant (h-row (begun (at-loop (c .before)))) (next (at-next (c .before))) ≡ some (Z (begun (at-loop (c .before))))
-own-label c = label-some (c .before) ∙ ap (λ (n : ℕ). some (toZ w64 n)) (c .if1 .left)
+-- what the next instant says of the parts
 
 part-at-requires : tie.Need-part-at-requires Inv-loop μ-loop
 part-at-requires c κs =
-    let n = at-next (c .before) in
-    let l = at-loop (c .before) in
-    (h-sound (begun l), (g-sound (begun l), (subst (Within (2 ^ 59)) (sym (next-is n)) (near l .1), (g-next n, (Z (begun l), own-label c)))))
+    let l = c .before .before in
+    (h-sound (begun l), (g-sound (begun l), (subst (Within (2 ^ 59)) (sym (next-is c)) (near l .1), (h-next c, g-next c))))
 
 enum-known-part : tie.Need-enum-known-part Inv-loop μ-loop
 enum-known-part c = search needs
@@ -209,31 +156,42 @@ enum-told c = search needs
 enum-told-2 : tie.Need-enum-told-2 Inv-loop μ-loop
 enum-told-2 c = search needs
 
--- what the instant says of the parts
+enum-told-3 : tie.Need-enum-told-3 Inv-loop μ-loop
+enum-told-3 c = search needs
+
+abbrev at-loop : tie.After-part-at Inv-loop μ-loop → tie.At-loop Inv-loop μ-loop
+at-loop c = c .before .before .before
+
+abbrev start : tie.After-part-at Inv-loop μ-loop → Start
+start c = begun (at-loop c)
+
 abbrev Says : tie.After-part-at Inv-loop μ-loop → Part → Type 0
 Says c x =
-    let l = at-loop (c .before .before) in
-    PartAt (h-row (begun l)) (g-row (begun l)) (Z (begun l)) (next (at-next (c .before .before))) (l .loop .count) (toZ w64 (l .loop .latest)) x
+    let l = at-loop c .loop in
+    PartAt (h-row (start c)) (g-row (start c)) (Z (start c)) (next (c .before)) (l .count) (toZ w64 (l .latest)) x
 
 says : (c : tie.After-part-at Inv-loop μ-loop) → Says c (c .part-at .result)
-says c = c .part-at .ensures _ (own-label (c .before))
+says c = c .part-at .ensures
+
+less : (c : tie.After-part-at Inv-loop μ-loop) → let P = up (toZ w64 (ofZ w64 (start c .args .h-period))) in ahead P (T (start c)) (next (c .before)) < ahead P (T (start c)) (here (at-loop c))
+less c =
+    let n = c .before in
+    let s = start c in
+    walk-less (h-row s) (g-row s) (h-rules s) (g-rules s) (Z s) (T s) (begins s) _ _ _ _ _ _ _ _ _ _ (at-loop c .loop .inv) (h-next n) (g-next n) (next-is n)
 
 -- ---- the next part
 
-abbrev at-part : tie.After-known-told2 Inv-loop μ-loop → tie.After-part-at Inv-loop μ-loop
+abbrev at-part : tie.After-known-told Inv-loop μ-loop → tie.After-part-at Inv-loop μ-loop
 at-part c = c .before .before .before
 
-abbrev part-loop : tie.After-known-told2 Inv-loop μ-loop → tie.At-loop Inv-loop μ-loop
-part-loop c = at-loop (at-part c .before .before)
-
 -- its label
-abbrev part : tie.After-known-told2 Inv-loop μ-loop → ℤ
+abbrev part : tie.After-known-told Inv-loop μ-loop → ℤ
 part c = toZ w64 (ofZ w64 (c .before .part .given .0 .0))
 
-part-fits : (c : tie.After-known-told2 Inv-loop μ-loop) → SFits w64 (c .before .part .given .0 .0)
-part-fits c = sfits-of (c .known-told2 .given .0 .1)
+part-fits : (c : tie.After-known-told Inv-loop μ-loop) → SFits w64 (c .before .part .given .0 .0)
+part-fits c = sfits-of (c .known-told .given .0 .1)
 
-part-says : (c : tie.After-known-told2 Inv-loop μ-loop) → Says (at-part c) (Next (part c))
+part-says : (c : tie.After-known-told Inv-loop μ-loop) → Says (at-part c) (Next (part c))
 part-says c = subst (Says (at-part c)) (c .before .part .given .1 ∙ ap Next (sym (toZ-ofZ (part-fits c)))) (says (at-part c))
 
 few : (c : tie.At-loop Inv-loop μ-loop) → c .loop .count ≤ 1048576
@@ -244,109 +202,110 @@ few c =
     omega (arith, n .high)
 
 add-count : tie.Need-add-count Inv-loop μ-loop
-add-count c = omega (arith, few (part-loop c))
+add-count c = omega (arith, few (at-loop (at-part c)))
 
 mul-k : tie.Need-mul-k Inv-loop μ-loop
-mul-k c = omega (arith, few (part-loop (c .before)))
+mul-k c = omega (arith, few (at-loop (at-part (c .before))))
 
 slice-set-from-k : tie.Need-slice-set-from-k Inv-loop μ-loop
 slice-set-from-k c = search needs
 
 -- the walk with one part more, in a list that shows it
-one-more : (c : tie.After-known-told2 Inv-loop μ-loop) (p : List ℤ)
-    → let l = part-loop c in
-    length p ≡ length (begun l .args .parts .now)
+one-more : (c : tie.After-known-told Inv-loop μ-loop) (p : List ℤ)
+    → let n = at-part c .before in
+    let l = n .before .before in
+    let s = begun l in
+    length p ≡ length (s .args .parts .now)
     → Shows p (l .loop .inv .seen ++ (part c ∷ []))
-    → Walk (h-row (begun l)) (g-row (begun l)) (Z (begun l)) (T (begun l)) (length (begun l .args .parts .now)) p (next (at-next (at-part c .before .before)))
-    (at-next (at-part c .before .before) .before .cursor-next .result) (at-next (at-part c .before .before) .cursor-next2 .result) (l .loop .count + 1) (part c)
+    → Walk (h-row s) (g-row s) (Z s) (T s) (length (s .args .parts .now)) p (next n) (n .before .cursor-next .result) (n .cursor-next2 .result) (l .loop .count + 1) (part c)
 one-more c p e x =
-    let l = part-loop c in
-    let n = at-next (at-part c .before .before) in
+    let n = at-part c .before in
+    let l = n .before .before in
     let s = begun l in
     let y = part-says c in
     walk-next (h-row s) (g-row s) (h-rules s) (g-rules s) (Z s) (T s) (begins s) _ _ _ _ _ _ _ _ _ _ (l .loop .inv) (h-next n) (g-next n) (next-is n)
-    (part c) p e x (own-label (at-part c .before)) (y .0) (y .1 .0) (y .1 .1)
-
-less : (k : tie.After-cursor-label Inv-loop μ-loop) → let l = k .before .before .before in
-    ahead (up (toZ w64 (ofZ w64 (begun l .args .h-period)))) (T (begun l)) (next (k .before)) < ahead (up (toZ w64 (ofZ w64 (begun l .args .h-period)))) (T (begun l)) (here l)
-less k =
-    let n = k .before in
-    let l = n .before .before in
-    let s = begun l in
-    walk-less (h-row s) (g-row s) (h-rules s) (g-rules s) (Z s) (T s) (begins s) _ _ _ _ _ _ _ _ _ _ (l .loop .inv) (h-next n) (g-next n) (next-is n)
+    (part c) p e x (y .0) (y .1 .0) (y .1 .1 .0) (y .1 .1 .1)
 
 loop-less : tie.Need-loop-less Inv-loop μ-loop
-loop-less c = less (at-part (c .before) .before .before .before .before .before)
+loop-less c = less (at-part (c .before))
 
 loop-again : tie.Need-loop-again Inv-loop μ-loop
 loop-again c =
     let k = c .before in
-    let l = part-loop k .loop in
+    let l = at-loop (at-part k) .loop in
     let b = l .inv in
-    one-more k (set (l .parts) (l .count) (part k)) (simp length-set (b .whole)) (shows-more (l .parts) (b .seen) (part k) (l .count) (b .count-is) (c .if2 .taken) (b .shows))
+    one-more k (set (l .parts) (l .count) (part k)) (simp length-set (b .whole)) (shows-more (l .parts) (b .seen) (part k) (l .count) (b .count-is) (c .if1 .taken) (b .shows))
 
 loop-less-2 : tie.Need-loop-less-2 Inv-loop μ-loop
-loop-less-2 c = less (at-part (c .before) .before .before .before .before .before)
+loop-less-2 c = less (at-part (c .before))
 
 loop-again-2 : tie.Need-loop-again-2 Inv-loop μ-loop
 loop-again-2 c =
     let k = c .before in
-    let l = part-loop k .loop in
+    let l = at-loop (at-part k) .loop in
     let b = l .inv in
-    let full : length (l .parts) ≤ length (b .seen) = omega (arith, b .count-is, c .if2 .left) in
+    let full : length (l .parts) ≤ length (b .seen) = omega (arith, b .count-is, c .if1 .left) in
     one-more k (l .parts) (b .whole) (shows-past (l .parts) (b .seen) (part k) full (b .shows))
 
--- ---- the latest part
+-- ---- no part begins
 
 loop-less-3 : tie.Need-loop-less-3 Inv-loop μ-loop
-loop-less-3 c = less (c .before .before .before .before .before .before .before)
+loop-less-3 c = less (c .before .before)
 
 loop-again-3 : tie.Need-loop-again-3 Inv-loop μ-loop
 loop-again-3 c =
     let a = c .before .before in
-    let n = at-next (a .before .before) in
-    let l = n .before .before in
-    let s = begun l in
-    let y = subst (Says a) (c .enum-told .given .1) (says a) in
-    walk-same (h-row s) (g-row s) (h-rules s) (g-rules s) (Z s) (T s) (begins s) _ _ _ _ _ _ _ _ _ _ (l .loop .inv) (h-next n) (g-next n) (next-is n)
-    (own-label (a .before)) (y .0) (y .1)
+    let n = a .before in
+    let b = at-loop a .loop .inv in
+    let s = start a in
+    let v = h-rules s in
+    let w = g-rules s in
+    ⊎-elim
+    (λ e. walk-past (h-row s) (g-row s) v w (Z s) (T s) (begins s) _ _ _ _ _ _ _ _ _ _ b (h-next n) (g-next n) (next-is n) e)
+    (λ y. walk-same (h-row s) (g-row s) v w (Z s) (T s) (begins s) _ _ _ _ _ _ _ _ _ _ b (h-next n) (g-next n) (next-is n) (y .0) (y .1 .0) (y .1 .1))
+    (subst (Says a) (c .enum-told .given .1) (says a))
 
--- ---- no part
+-- ---- the granule is over
 
-same-length-2 : tie.Need-same-length-2 Inv-loop μ-loop
-same-length-2 c = at-loop (c .before .before .before .before) .loop .inv .whole
+same-length : tie.Need-same-length Inv-loop μ-loop
+same-length c = at-loop (c .before .before) .loop .inv .whole
 
-returns-2 : tie.Need-returns-2 Inv-loop μ-loop
-returns-2 c =
+returns : tie.Need-returns Inv-loop μ-loop
+returns c =
     let a = c .before .before in
-    let n = at-next (a .before .before) in
-    let l = n .before .before in
-    let s = begun l in
+    let n = a .before in
+    let l = at-loop a .loop in
+    let b = l .inv in
+    let s = start a in
     let p = s .fits .h-period in
     let d = s .fits .h-distance in
     let q = s .fits .g-period in
     let m = s .fits .g-distance in
     let z = s .fits .z in
     let y = subst (Says a) (c .enum-told2 .given .1) (says a) in
-    let x = walk-broken (h-row s) (g-row s) (h-rules s) (g-rules s) (Z s) (T s) (begins s) _ _ _ _ _ _ _ _ _ _ (l .loop .inv) (h-next n) (g-next n) (next-is n) (own-label (a .before)) y in
+    let made = walk-made (h-row s) (g-row s) (h-rules s) (g-rules s) (Z s) (T s) (begins s) _ _ _ _ _ _ _ _ _ _ b (h-next n) (g-next n) (next-is n) (y .0) (y .1) (y .2) in
+    let same = walk-parts (h-row s) (g-row s) (h-rules s) (g-rules s) (Z s) (T s) (begins s) _ _ _ _ _ _ _ _ _ _ b (h-next n) (g-next n) (next-is n) (y .0) (y .1) (y .2) in
+    let x : Walks (h-row s) (g-row s) (Z s) (l .parts) (Parts (l .count)) = (made, (b .count-is ∙ ap length same, subst (λ (a : List ℤ). Shows (l .parts) a) same (b .shows))) in
     simp plain at x
 
--- ---- no label
+-- ---- an instant is in no part
 
-enum-told-3 : tie.Need-enum-told-3 Inv-loop μ-loop
-enum-told-3 c = search needs
+same-length-2 : tie.Need-same-length-2 Inv-loop μ-loop
+same-length-2 c = at-loop (c .before .before) .loop .inv .whole
 
-loop-less-4 : tie.Need-loop-less-4 Inv-loop μ-loop
-loop-less-4 c = less (c .before .before)
-
-loop-again-4 : tie.Need-loop-again-4 Inv-loop μ-loop
-loop-again-4 c =
-    let k = c .before .before in
-    let n = k .before in
-    let l = n .before .before in
-    let s = begun l in
-    walk-past (h-row s) (g-row s) (h-rules s) (g-rules s) (Z s) (T s) (begins s) _ _ _ _ _ _ _ _ _ _ (l .loop .inv) (h-next n) (g-next n) (next-is n)
-    (label-is k ∙ ap found (c .enum-told3 .given .1))
+returns-2 : tie.Need-returns-2 Inv-loop μ-loop
+returns-2 c =
+    let a = c .before .before in
+    let n = a .before in
+    let s = start a in
+    let p = s .fits .h-period in
+    let d = s .fits .h-distance in
+    let q = s .fits .g-period in
+    let m = s .fits .g-distance in
+    let z = s .fits .z in
+    let y = subst (Says a) (c .enum-told3 .given .1) (says a) in
+    let x = walk-broken (h-row s) (g-row s) (h-rules s) (g-rules s) (Z s) (T s) (begins s) _ _ _ _ _ _ _ _ _ _ (at-loop a .loop .inv) (h-next n) (g-next n) (next-is n) (y .0) (y .1) in
+    simp plain at x
 
 pub parts-of-spec : {M : Type 1} → statement M
 parts-of-spec =
@@ -361,10 +320,6 @@ parts-of-spec =
     cursor-next-requires
     cursor-next-requires-2
     add-at
-    cursor-label-requires
-    enum-known-label
-    same-length
-    returns
     part-at-requires
     enum-known-part
     add-count
@@ -378,8 +333,8 @@ parts-of-spec =
     loop-less-3
     loop-again-3
     enum-told-2
-    same-length-2
-    returns-2
+    same-length
+    returns
     enum-told-3
-    loop-less-4
-    loop-again-4)
+    same-length-2
+    returns-2)
