@@ -1,0 +1,85 @@
+// Questions to a row, put through a reader that borrows it.
+
+use floats::Allowance;
+use questions::Figured;
+use questions::Late;
+use questions::Up;
+use questions::down::Parted;
+ghost use mathlib.Core.Path.{_≡_};
+ghost use lib.ListN.{length};
+ghost use Rattle.calendar.specs.Questions as Q;
+ghost use Rattle.calendar.specs.Questions.{given, upFromInstant, upFromGranule};
+ghost use Rattle.questions.specs.Answers.{upReply, partsReply, counted, partsAfter, FiguresOf, lateReply, mayBeLate};
+
+// One row, borrowed together with its period and distance.
+pub struct Reader<'a> {
+    pub cells: &'a [i32],
+    pub period: i64,
+    pub distance: i64,
+}
+
+impl<'a> Reader<'a> {
+    // The label of the instant t.
+    pub fn up_instant(self, t: i64) -> Up
+        ensures { λ r. ⌜ upReply r ≡ upFromInstant (given (self .entry .period) (self .entry .distance) (now (self .entry .cells))) t ⌝ }
+    {
+        questions::up_instant(t, self.cells, self.period, self.distance)
+    }
+
+    // Openness, mean length and mean spacing.
+    pub fn figures(self) -> Figured
+        ensures { λ r. ⌜ FiguresOf (given (self .entry .period) (self .entry .distance) (now (self .entry .cells))) r ⌝ }
+    {
+        questions::figures(self.cells, self.period, self.distance)
+    }
+
+    // Whether a delivery may be d instants late on the granule z.
+    pub fn may_be_late(self, z: i64, d: i64, allowance: Allowance) -> Late
+        ensures { λ r. ⌜ lateReply r ≡ mayBeLate (given (self .entry .period) (self .entry .distance) (now (self .entry .cells))) z d allowance ⌝ }
+    {
+        questions::may_be_late(z, d, allowance, self.cells, self.period, self.distance)
+    }
+
+    // The label of the granule of h that contains the whole granule z.
+    pub fn up_granule<'b>(self, h: Reader<'b>, z: i64) -> Up
+        ensures { λ r. ⌜ upReply r ≡ upFromGranule (given (self .entry .period) (self .entry .distance) (now (self .entry .cells))) (given (h .entry .period) (h .entry .distance) (now (h .entry .cells))) z ⌝ }
+    {
+        questions::up_granule(
+            z,
+            self.cells,
+            self.period,
+            self.distance,
+            h.cells,
+            h.period,
+            h.distance,
+        )
+    }
+
+    // The labels of the granules of g that make up the granule z, rising, in `parts`.
+    pub fn down<'g, 'p>(self, g: Reader<'g>, z: i64, parts: &'p mut [i64]) -> Parted
+        ensures answer { λ r. ⌜ partsReply r ≡ counted (Q.down (given (self .entry .period) (self .entry .distance) (now (self .entry .cells))) (given (g .entry .period) (g .entry .distance) (now (g .entry .cells))) z (length (now (parts .entry)))) ⌝ }
+        ensures list { λ r. ⌜ now (parts .exit) ≡ partsAfter (length (now (parts .entry))) (Q.down (given (self .entry .period) (self .entry .distance) (now (self .entry .cells))) (given (g .entry .period) (g .entry .distance) (now (g .entry .cells))) z (length (now (parts .entry)))) ⌝ }
+    {
+        questions::down::down(
+            z,
+            parts,
+            self.cells,
+            self.period,
+            self.distance,
+            g.cells,
+            g.period,
+            g.distance,
+        )
+    }
+}
+
+// The first question with plain parameters: a reader is made of them and asked. Whoever calls it needs no proof by hand.
+pub fn up_instant(t: i64, cells: &[i32], period: i64, distance: i64) -> Up
+    ensures { λ r. ⌜ upReply r ≡ upFromInstant (given period distance (now (cells .entry))) t ⌝ }
+{
+    Reader {
+        cells,
+        period,
+        distance,
+    }.up_instant(t)
+}
