@@ -170,10 +170,10 @@ pub fn down(
     ensures list { λ r. ⌜ now (parts .exit) ≡ partsAfter (length (now (parts .entry))) (Q.down (given «h_period» «h_distance» (now («h_cells» .entry))) (given «g_period» «g_distance» (now («g_cells» .entry))) z (length (now (parts .entry)))) ⌝ }
 {
     clear(&mut *parts);
-    if !rows::turn::sound(h_cells, h_period, h_distance) {
+    if !rows::sound(h_cells, h_period, h_distance) {
         return Parted::Refused(Refusal::RowNotSound);
     }
-    if !rows::turn::sound(g_cells, g_period, g_distance) {
+    if !rows::sound(g_cells, g_period, g_distance) {
         return Parted::Refused(Refusal::RowNotSound);
     }
     if !Calendar::in_range(z) {

@@ -46,7 +46,7 @@ pub enum Late {
 pub fn up_instant(t: i64, cells: &[i32], period: i64, distance: i64) -> Up
     ensures { λ r. ⌜ upReply r ≡ upFromInstant (given period distance (now (cells .entry))) t ⌝ }
 {
-    if !rows::turn::sound(cells, period, distance) {
+    if !rows::sound(cells, period, distance) {
         return Up::Refused(Refusal::RowNotSound);
     }
     if !Calendar::in_range(t) {
@@ -72,10 +72,10 @@ pub fn up_granule(
 ) -> Up
     ensures { λ r. ⌜ upReply r ≡ upFromGranule (given «g_period» «g_distance» (now («g_cells» .entry))) (given «h_period» «h_distance» (now («h_cells» .entry))) z ⌝ }
 {
-    if !rows::turn::sound(g_cells, g_period, g_distance) {
+    if !rows::sound(g_cells, g_period, g_distance) {
         return Up::Refused(Refusal::RowNotSound);
     }
-    if !rows::turn::sound(h_cells, h_period, h_distance) {
+    if !rows::sound(h_cells, h_period, h_distance) {
         return Up::Refused(Refusal::RowNotSound);
     }
     if !Calendar::in_range(z) {
@@ -104,11 +104,11 @@ pub fn up_granule(
 pub fn figures(cells: &[i32], period: i64, distance: i64) -> Figured
     ensures { λ r. ⌜ FiguresOf (given period distance (now (cells .entry))) r ⌝ }
 {
-    if !rows::turn::sound(cells, period, distance) {
+    if !rows::sound(cells, period, distance) {
         return Figured::Refused(Refusal::RowNotSound);
     }
-    let labelled = rows::turn::labelled_instants(cells);
-    let granules = rows::turn::granules(cells, period, distance);
+    let labelled = rows::labelled_instants(cells);
+    let granules = rows::granules(cells, period, distance);
     let shown = floats::figures_of(labelled as u64, period as u64, granules as u64);
     Figured::Are(shown)
 }
@@ -166,7 +166,7 @@ pub fn may_be_late(
 ) -> Late
     ensures { λ r. ⌜ lateReply r ≡ mayBeLate (given period distance (now (cells .entry))) z d allowance ⌝ }
 {
-    if !rows::turn::sound(cells, period, distance) {
+    if !rows::sound(cells, period, distance) {
         return Late::Refused(Refusal::RowNotSound);
     }
     if !Calendar::in_range(z) {

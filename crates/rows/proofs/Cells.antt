@@ -9,13 +9,14 @@ use Prim.Native.Nat.{ℕ, zero, suc, _<_}
 use native.Mathlib.Omega.{arith}
 use lib.Dec.{T}
 use lib.IntN.{ℤ, pos, negsuc, natAbs, pos-ne-negsuc}
-use lib.Signed.{nonNeg}
+use lib.Signed.{_≤ℤ_, nonNeg}
 use lib.ListN.{length, getD}
 use mir.Facts.{sfits-lit}
 use mir.Syntax.{w32}
 use mir.Val.{SFits, ofZ}
 use Rattle.integers.specs.Parts.{up}
 use Rattle.integers.proofs.Linear.{ints}
+use Rattle.integers.proofs.Order.{pos-up}
 use Rattle.integers.proofs.Machine.{test-eq}
 use Rattle.calendar.specs.Meaning.{labelOf, isEmpty, empty}
 use Rattle.granules.proofs.Tests.{true≢false, eqb-iff, false-iff}
@@ -51,7 +52,10 @@ bits-empty z f e = empty-iff z .1 (test-eq w32 z empty f (sfits-lit tt) .0 e)
 pub bits-full : (z : ℤ) → (ofZ w32 z ≡ 2147483648 → ⊥) → isEmpty z ≡ false
 bits-full z f = false-iff (empty-iff z) .1 (λ e. f (ap (ofZ w32) e))
 
--- an index is a natural, as the machine casts it
+-- a number that is not below 0, as the machine casts it to an unsigned one
+pub cast-nat : {z : ℤ} → pos 0 ≤ℤ z → (T (nonNeg z)) × (natAbs z ≡ up z)
+cast-nat {z = pos n} h = (tt, refl)
+cast-nat {z = negsuc n} h = absurd (h .le)
+
 pub index-nat : {i : ℤ} (cells : List ℤ) → Index i cells → (T (nonNeg i)) × (natAbs i ≡ up i) × (up i < length cells)
-index-nat {i = pos n} cells h = (tt, refl, omega (arith, simp ints at (h .1)))
-index-nat {i = negsuc n} cells h = absurd (h .0 .le)
+index-nat cells h = let n = cast-nat (h .0) in (n .0, n .1, omega (arith, simp ints at (h .1), simp ints at (pos-up (h .0))))

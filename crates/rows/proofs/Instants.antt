@@ -63,17 +63,18 @@ leading-le (z ∷ l) (suc m) j e = by (isEmpty z) refl (leading-le l m j e)
 
 -- ---- the search for a cell
 
-module _ (c : Calendar) (j : ℤ) (label : isEmpty j ≡ false) where
+module _ (c : Calendar) where
   -- the cells of l are those of the instants from t on
-  abbrev Cells : ℤ → List ℤ → Type 0
+  abbrev pub Cells : ℤ → List ℤ → Type 0
   Cells t l = (m : ℕ) → m < length l → c (t +ℤ pos m) ≡ labelOf (getD l m empty)
 
-  first-cell : (t z : ℤ) (l : List ℤ) → Cells t (z ∷ l) → c t ≡ labelOf z
+  pub first-cell : (t z : ℤ) (l : List ℤ) → Cells t (z ∷ l) → c t ≡ labelOf z
   first-cell t z l h = ap c (simp ints (omega arith)) ∙ h 0 (omega arith)
 
-  rest : (t z : ℤ) (l : List ℤ) → Cells t (z ∷ l) → Cells (t +ℤ pos 1) l
+  pub rest : (t z : ℤ) (l : List ℤ) → Cells t (z ∷ l) → Cells (t +ℤ pos 1) l
   rest t z l h m k = ap c (simp ints (omega arith)) ∙ h (suc m) (omega arith)
 
+module _ (c : Calendar) (j : ℤ) (label : isEmpty j ≡ false) where
   -- a label is j exactly if its cell is
   same-cell : (z : ℤ) → is j (labelOf z) ≡ equal j z
   same-cell z = by (isEmpty z) refl
@@ -83,17 +84,17 @@ module _ (c : Calendar) (j : ℤ) (label : isEmpty j ≡ false) where
       by false e = refl
 
   -- what the first of these instants says, by its cell
-  step : (t z : ℤ) (l : List ℤ) → Cells t (z ∷ l) → (b : Bool) → equal j z ≡ b
+  step : (t z : ℤ) (l : List ℤ) → Cells c t (z ∷ l) → (b : Bool) → equal j z ≡ b
       → firstWith c j (from t (suc (length l))) ≡ cond b (some t) (firstWith c j (from (t +ℤ pos 1) (length l)))
-  step t z l h b e = ap (λ (x : Bool). cond x (some t) (firstWith c j (from (t +ℤ pos 1) (length l)))) (ap (is j) (first-cell t z l h) ∙ same-cell z ∙ e)
+  step t z l h b e = ap (λ (x : Bool). cond x (some t) (firstWith c j (from (t +ℤ pos 1) (length l)))) (ap (is j) (first-cell c t z l h) ∙ same-cell z ∙ e)
 
   place : (z : ℤ) (l : List ℤ) (b : Bool) → equal j z ≡ b → position j (z ∷ l) ≡ cond b 0 (suc (position j l))
   place z l true e = run-cons (λ y. not (equal j y)) z l false (ap not e)
   place z l false e = run-cons (λ y. not (equal j y)) z l true (ap not e)
 
-  pub search-found : (t : ℤ) (l : List ℤ) → Cells t l → position j l < length l → firstWith c j (from t (length l)) ≡ some (t +ℤ pos (position j l))
+  pub search-found : (t : ℤ) (l : List ℤ) → Cells c t l → position j l < length l → firstWith c j (from t (length l)) ≡ some (t +ℤ pos (position j l))
   search-found t [] h k = absurd (omega arith)
-  search-found t (z ∷ l) h k = by (equal j z) refl (search-found (t +ℤ pos 1) l (rest t z l h))
+  search-found t (z ∷ l) h k = by (equal j z) refl (search-found (t +ℤ pos 1) l (rest c t z l h))
     where
       by : (b : Bool) → equal j z ≡ b → (position j l < length l → firstWith c j (from (t +ℤ pos 1) (length l)) ≡ some (t +ℤ pos 1 +ℤ pos (position j l)))
           → firstWith c j (from t (suc (length l))) ≡ some (t +ℤ pos (position j (z ∷ l)))
@@ -102,9 +103,9 @@ module _ (c : Calendar) (j : ℤ) (label : isEmpty j ≡ false) where
           let p = place z l false e in
           step t z l h false e ∙ ih (omega arith) ∙ ap some (p ∴ simp ints (omega arith))
 
-  pub search-none : (t : ℤ) (l : List ℤ) → Cells t l → length l ≤ position j l → firstWith c j (from t (length l)) ≡ none
+  pub search-none : (t : ℤ) (l : List ℤ) → Cells c t l → length l ≤ position j l → firstWith c j (from t (length l)) ≡ none
   search-none t [] h k = refl
-  search-none t (z ∷ l) h k = by (equal j z) refl (search-none (t +ℤ pos 1) l (rest t z l h))
+  search-none t (z ∷ l) h k = by (equal j z) refl (search-none (t +ℤ pos 1) l (rest c t z l h))
     where
       by : (b : Bool) → equal j z ≡ b → (length l ≤ position j l → firstWith c j (from (t +ℤ pos 1) (length l)) ≡ none) → firstWith c j (from t (suc (length l))) ≡ none
       by true e ih = absurd (omega (arith, place z l true e))
@@ -176,7 +177,7 @@ module _ (period distance : ℤ) (cells : List ℤ) (s : Sound period distance c
       }
 
   -- the cells of the row are those of its first turn
-  own-cells : (m : ℕ) → m < length cells → meant row (pos 0 +ℤ pos m) ≡ labelOf (getD cells m empty)
+  pub own-cells : (m : ℕ) → m < length cells → meant row (pos 0 +ℤ pos m) ≡ labelOf (getD cells m empty)
   own-cells m h = ap (meant row) (simp ints (omega arith)) ∙ meant-cell row m (omega (arith, n .whole))
 
   -- what `instantOf` says, by what is found in the first turn

@@ -6,10 +6,9 @@
 --     Bounds       how far labels and the ends of granules are from an instant
 --     Search       a search cell by cell
 --     Instants     an instant with a label, by the row's own cells
---     Turns        the cells of a turn, as a loop goes over them
---     Falls        what check 13 asks of labels, cell by cell
---     Distinct     the granules of a turn by its distinct labels
---     Runs         runs of equal labels along a row
+--     Order        labels that never fall, by the first and the last of them
+--     Counts       the labels of a row, counted
+--     Turn         how many granules a turn has
 pub mod Numbers
 pub mod Cells
 pub mod Cursors
@@ -17,7 +16,6 @@ pub mod Walks
 pub mod Bounds
 pub mod Search
 pub mod Instants
-pub mod Turns
-pub mod Falls
-pub mod Distinct
-pub mod Runs
+pub mod Order
+pub mod Counts
+pub mod Turn

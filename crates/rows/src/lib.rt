@@ -3,19 +3,26 @@
 ghost use mathlib.Core.Path.{_≡_};
 ghost use lib.IntN.{ℤ, pos, _+ℤ_, _-ℤ_};
 ghost use Prim.Native.Nat.{_<_, _^_};
-ghost use lib.ListN.{getD};
+ghost use lib.Signed.{_≤ℤ_};
+ghost use lib.ListN.{length, getD};
 ghost use Rattle.integers.specs.Parts.{up};
 ghost use Rattle.calendar.specs.Meaning.{meant, empty};
 ghost use mathlib.Core.Option.{some};
 ghost use Rattle.calendar.specs.Lists.{first, last};
-ghost use Rattle.calendar.specs.Granules.{firstLabel, granule, instantOf};
+ghost use Rattle.calendar.specs.Granules as G;
+ghost use Rattle.calendar.specs.Granules.{granule, instantOf};
+ghost use Rattle.calendar.specs.Checks as C;
 ghost use Rattle.calendar.specs.Questions.{given};
 ghost use Rattle.rows.specs.Found.{found, Sound, Within, Near, Labelled};
 ghost use Rattle.rows.specs.Search as S;
+ghost use Rattle.rows.specs.Order.{labelsSound};
 ghost use Rattle.rows.specs.Cursor.{Index, cursorAt, Standing};
 use calendar::Calendar;
 
-pub mod turn;
+mod scan;
+
+// The longest period, in cells.
+pub const LONGEST_PERIOD: i64 = 1048576;
 
 // A label or an instant, where there is one.
 pub enum Found {
@@ -173,43 +180,6 @@ pub fn last_instant(cells: &[i32], period: i64, distance: i64, t: i64) -> i64
     }
 }
 
-// How many cells stand before the first label.
-fn leading(cells: &[i32]) -> usize
-    ensures { λ r. ⌜ r ≡ S.leading (now (cells .entry)) ⌝ }
-{
-    let mut i = 0;
-    while i < cells.len() {
-        if cells[i] != Calendar::EMPTY {
-            return i;
-        }
-        i += 1;
-    }
-    i
-}
-
-// The first label of a row that has one.
-fn first_label(cells: &[i32]) -> i64
-    requires { do ⌜ S.leading (now cells) < (← ⟦cells.len()⟧) ⌝ }
-    ensures { λ r. ⌜ r ≡ firstLabel (now (cells .entry)) ⌝ }
-{
-    let i = leading(cells);
-    cells[i] as i64
-}
-
-// The index of the first cell that is z, or the number of cells.
-fn position(cells: &[i32], z: i32) -> usize
-    ensures { λ r. ⌜ r ≡ S.position z (now (cells .entry)) ⌝ }
-{
-    let mut i = 0;
-    while i < cells.len() {
-        if cells[i] == z {
-            return i;
-        }
-        i += 1;
-    }
-    i
-}
-
 // An instant with the label z: z less whole turns, counted from the first label, is in the row itself.
 pub fn instant_of(cells: &[i32], period: i64, distance: i64, z: i64) -> Found
     requires { ⌜ Sound period distance (now cells) ⌝ }
@@ -217,12 +187,84 @@ pub fn instant_of(cells: &[i32], period: i64, distance: i64, z: i64) -> Found
     ensures { λ r. ⌜ found r ≡ instantOf (given period distance (now (cells .entry))) z ⌝ }
     ensures { λ r. ⌜ ((t : ℤ) → found r ≡ some t → Within (2 ^ 52) t) ⌝ }
 {
-    let turns = integers::floor_div(z - first_label(cells), distance);
+    let turns = integers::floor_div(z - scan::first_label(cells), distance);
     let cell = z - turns * distance;
-    let i = position(cells, cell as i32);
+    let i = scan::position(cells, cell as i32);
     if i < cells.len() {
         Found::At(i as i64 + turns * period)
     } else {
         Found::Nothing
     }
+}
+
+// The labels of a row pass check 13. As they never fall, only the first can be too small, and only the last too great.
+fn labels_sound(cells: &[i32], distance: i64) -> bool
+    requires { ⌜ (pos 0 ≤ℤ distance) × (distance ≤ℤ pos 1048576) ⌝ }
+    ensures { λ r. ⌜ r ≡ labelsSound (up distance) (now (cells .entry)) ⌝ }
+{
+    let start = scan::leading(cells);
+    if cells.len() <= start {
+        return false;
+    }
+    let first = scan::wide(cells, start);
+    let end = scan::last_label(cells, start);
+    let Found::At(last) = end else {
+        return false;
+    };
+    if first < Calendar::LEAST_LABEL {
+        return false;
+    }
+    if last > Calendar::GREATEST_LABEL {
+        return false;
+    }
+    last <= first + distance
+}
+
+// The row passes check 13.
+pub fn sound(cells: &[i32], period: i64, distance: i64) -> bool
+    ensures { λ r. ⌜ r ≡ C.sound (given period distance (now (cells .entry))) ⌝ }
+{
+    if distance < 1 {
+        return false;
+    }
+    if period < distance {
+        return false;
+    }
+    if period > LONGEST_PERIOD {
+        return false;
+    }
+    if cells.len() != period as usize {
+        return false;
+    }
+    labels_sound(cells, distance)
+}
+
+// How many granules a turn has: the labels of the row, less one where the last is the first of the next turn.
+pub fn granules(cells: &[i32], period: i64, distance: i64) -> i64
+    requires { ⌜ Sound period distance (now cells) ⌝ }
+    ensures { λ r. ⌜ r ≡ pos (G.granules (given period distance (now (cells .entry)))) ⌝ }
+{
+    let start = scan::leading(cells);
+    let first = scan::wide(cells, start);
+    let labels = scan::labels_from(cells, start);
+    if labels.last == first + distance {
+        labels.count - 1
+    } else {
+        labels.count
+    }
+}
+
+// How many instants of a turn have a label.
+pub fn labelled_instants(cells: &[i32]) -> i64
+    ensures { λ r. ⌜ r ≡ pos (length (C.labelsOf (now (cells .entry)))) ⌝ }
+{
+    let mut count: usize = 0;
+    let mut i = 0;
+    while i < cells.len() {
+        if cells[i] != Calendar::EMPTY {
+            count += 1;
+        }
+        i += 1;
+    }
+    count as i64
 }

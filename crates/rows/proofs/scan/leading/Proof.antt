@@ -1,4 +1,4 @@
--- `rows::leading` meets its contract: the loop is the search for a cell that is not empty.
+-- `rows::scan::leading` meets its contract: the loop is the search for a cell that is not empty.
 -- Assumes nothing.
 use mathlib.Core.Path.{sym}
 use Prim.Native.Nat.{_-_}
@@ -9,8 +9,8 @@ use lib.ListN.{length, getD}
 use Rattle.calendar.specs.Meaning.{isEmpty}
 use Rattle.rows.proofs.Cells.{bits-empty, bits-full}
 use Rattle.rows.proofs.Search.{Searched, search-start, search-past, search-here, search-end}
-use Rattle.rows.proofs.leading.Statement.{statement}
-use Rattle.rows.proofs.leading.Tie as tie
+use Rattle.rows.proofs.scan.leading.Statement.{statement}
+use Rattle.rows.proofs.scan.leading.Tie as tie
 
 abbrev Inv-loop : tie.InvT-loop
 Inv-loop cells i₀ i = Searched isEmpty cells i

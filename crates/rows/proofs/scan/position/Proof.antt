@@ -1,4 +1,4 @@
--- `rows::position` meets its contract: the loop is the search for the cell z.
+-- `rows::scan::position` meets its contract: the loop is the search for the cell z.
 -- Assumes nothing.
 use mathlib.Core.Path.{_≡_, sym, _∙_, ap}
 use mathlib.Core.Bool.{Bool, not}
@@ -15,8 +15,8 @@ use Rattle.calendar.specs.Lists.{equal}
 use Rattle.granules.proofs.Tests.{equal-iff, false-iff}
 use Rattle.rows.specs.Search.{position}
 use Rattle.rows.proofs.Search.{Searched, search-start, search-past, search-here, search-end}
-use Rattle.rows.proofs.position.Statement.{statement}
-use Rattle.rows.proofs.position.Tie as tie
+use Rattle.rows.proofs.scan.position.Statement.{statement}
+use Rattle.rows.proofs.scan.position.Tie as tie
 
 -- the test that the search passes
 abbrev other : ℤ → ℤ → Bool
