@@ -6,7 +6,7 @@
 --     made                 the machine value of a reader that is made of its fields, in a local, is of the struct's type
 --     Parts α d            what the reader's fields own.        PartsThen      the same, and more behind it
 --     fields-last          what a reader and other parameters own, with the reader taken apart and its fields last.        fields-first     and back
---     both-last            the same of two readers.        both-first     and back
+--     both-last            the same of two readers
 -- Assumes `Given`.
 use mathlib.Core.Path.{_≡_}
 use mathlib.Core.List.{List, [], _∷_}
@@ -29,7 +29,8 @@ use denote.Steps.{only}
 use denote.Struct.Field.{rows}
 use denote.Struct.Rest.{own-open, own-shut}
 use Rattle.walked.proofs.Params.{Known, number, cells, struct}
-use Rattle.walked.proofs.Passed.{IsOf, ownsThen, last, unlast}
+use Rattle.walked.proofs.Owned.{ownsThen, last, unlast}
+use Rattle.walked.proofs.Passed.{IsOf}
 use Rattle.reader.specs.declared.Reader.{Reader}
 use Rattle.reader.proofs.Reader as T
 use Rattle.reader.proofs.Reader.Laws as T′
@@ -119,9 +120,3 @@ module _ {M : Type 1} (𝓤 : URA M) (H : Heap 𝓤) (A : Atoms 𝓤) (W : Given
     both-last =
         qed W (‵ (Own α d) ∷ ‵ (Own β e) ∷ ‵ (owns Ts a vss) ∷ []) ∵ use1 W (‵ (Parts α d)) (apart α d) $ move ! (1 ∷ []) $ use1 W (‵ (Parts β e)) (apart β e) $
         move ! (1 ∷ 0 ∷ []) $ use2 W (‵ Both) (last 𝓤 H A (Rows α) (Row d) (Vals α d) (Parts β e)) $ move ! (1 ∷ 0 ∷ []) $ by ! (last 𝓤 H A Ts a vss Both)
-
-    pub both-first : ent 𝓤 (sem 𝓤 H A (ownsThen Ts a vss Both)) (sem 𝓤 H A (owns (T.the-row α ∷ T.the-row β ∷ Ts) (d, (e, a)) (T′.lowered d ∷ [], (T′.lowered e ∷ [], vss))))
-    both-first =
-        qed W (‵ (ownsThen Ts a vss Both) ∷ []) ∵ use1 W (‵ (owns Ts a vss) ⊛ ‵ Both) (unlast 𝓤 H A Ts a vss Both) $ split ! $ move ! (1 ∷ []) $
-        use1 W (‵ (Parts α d) ⊛ ‵ (Parts β e)) (unlast 𝓤 H A (Rows α) (Row d) (Vals α d) (Parts β e)) $ split ! $
-        use1 W (‵ (Own α d)) (together α d) $ move ! (1 ∷ []) $ use1 W (‵ (Own β e)) (together β e) $ move ! (1 ∷ 0 ∷ []) $ done !

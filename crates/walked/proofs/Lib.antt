@@ -1,8 +1,11 @@
 -- Lemmas for functions that are proved by a walk of their MIR, by hand.
 --     Logic        what a walk names of the logic, by one module
---     Steps        steps of a walk
+--     Owned        what parameters own, and what is said of them at exit
+--     Params       what is known of the machine values of parameters
 --     Passed       a function that passes its arguments on to another, and returns its answer
+--     Steps        steps of a walk
 pub mod Logic
+pub mod Owned
 pub mod Params
-pub mod Steps
 pub mod Passed
+pub mod Steps

@@ -1,9 +1,10 @@
 -- `Reader::may_be_late` meets its contract, by hand: it passes the reader's fields on to `questions::may_be_late`.
 -- Assumes nothing.
-use Rattle.walked.proofs.Logic.{refl, [], _∷_, List, ℤ, URA, named, tyInt, w64, SProp, id⊢, Memory, Routine, Heap, WpFn, Tables, Atoms, Lfts, Fun, givenOf, tables, tablesOf, Given, raw, _$_, _∵_, !, qed, move, done, look, init, stop, from, and-then, no-more, land, returns, enter, alloc1, alloc0, params1, pass1, pass0, free0, i64, Typed, Meets, tripleOf, entered, cited, of-opd, namedLft, NamedLft}
-use Rattle.walked.proofs.Steps.{cell, part, puts, dies}
+use Rattle.walked.proofs.Logic.{refl, [], _∷_, ℤ, URA, named, tyInt, w64, SProp, id⊢, Memory, Routine, Heap, WpFn, Tables, Atoms, Lfts, Fun, givenOf, tables, tablesOf, Given, raw, _$_, _∵_, !, qed, move, done, look, init, stop, from, and-then, no-more, land, returns, enter, alloc1, alloc0, params1, pass1, pass0, free0, i64, Typed, Meets, tripleOf, entered, cited, of-opd, namedLft, NamedLft}
+use Rattle.walked.proofs.Owned.{silence}
 use Rattle.walked.proofs.Params.{number, enum}
-use Rattle.walked.proofs.Passed.{Passes, calls-on, same, passes-on, silence}
+use Rattle.walked.proofs.Passed.{Passes, calls-on, same, passes-on}
+use Rattle.walked.proofs.Steps.{cell, part, puts, dies}
 use Rattle.reader.specs.declared.Reader.{Reader}
 use Rattle.reader.proofs.Reader.Laws as T′
 use Rattle.reader.proofs.Fields.{num, fields, Row, row, reader, fields-last}
@@ -25,7 +26,7 @@ use Rattle.reader.proofs.Reader.may_be_late.Code as code
 abbrev α : Lfts 1 → NamedLft
 α κs = namedLft 1 0 tt κs
 
-module _ {M : Type 1} (𝓤 : URA M) (H : Heap 𝓤) (A : Atoms 𝓤) (W : Given 𝓤 H A) (𝓣 : Tables 𝓤 H) (d : Reader) (z : ℤ) (l : ℤ) (w : Allowance) where
+module _ {M : Type 1} (𝓤 : URA M) (H : Heap 𝓤) (A : Atoms 𝓤) (W : Given 𝓤 H A) (𝓣 : Tables 𝓤 H) (d : Reader) (z l : ℤ) (w : Allowance) where
   walk : Typed (T′.mir (named 0) ∷ tyInt w64 ∷ tyInt w64 ∷ O′.mir ∷ []) (T′.lowered d ∷ num z ∷ num l ∷ EL.val O.the-type O′.the-laws w ∷ []) → Passes 𝓤 H 𝓣 code.function (T′.lowered d ∷ num z ∷ num l ∷ EL.val O.the-type O′.the-laws w ∷ []) #questions·may-be-late (num z ∷ num l ∷ EL.val O.the-type O′.the-laws w ∷ fields d) N′.mir
   walk ts P Q h =
       qed W (raw P ∷ []) ∵ enter ! (𝓣 .C) (𝓣 .Λ) code.function (T′.lowered d ∷ num z ∷ num l ∷ EL.val O.the-type O′.the-laws w ∷ []) Q $
