@@ -14,6 +14,7 @@ use calendar::Calendar;
 use calendar::Refusal;
 use rows::Cursor;
 use rows::Found;
+use walks::Place;
 
 // How many parts there are.
 pub enum Parted {
@@ -85,14 +86,20 @@ fn part_at(
             return Part::Nothing;
         }
     }
-    let whole = walks::inside(
+    let place = Place {
+        b: g,
+        k,
+        a: h,
+        i: z,
+    };
+    let whole = walks::inside_at(
         g_cells,
         g_period,
         g_distance,
         h_cells,
         h_period,
         h_distance,
-        t,
+        place,
     );
     if whole { Part::Next(k) } else { Part::Broken }
 }

@@ -15,11 +15,11 @@ use rows::Cursor;
 use rows::Found;
 
 // Where a walk is that sees whether the granule k of the row b lies in the granule i of the row a: at one instant, by its cursors.
-struct Place {
-    b: Cursor,
-    k: i64,
-    a: Cursor,
-    i: i64,
+pub struct Place {
+    pub b: Cursor,
+    pub k: i64,
+    pub a: Cursor,
+    pub i: i64,
 }
 
 // What an instant says to such a walk.
@@ -158,6 +158,41 @@ fn inside_back(
     }
 }
 
+// Whether b's granule at the place lies in a's.
+pub fn inside_at(
+    b_cells: &[i32],
+    b_period: i64,
+    b_distance: i64,
+    a_cells: &[i32],
+    a_period: i64,
+    a_distance: i64,
+    from: Place,
+) -> bool
+    requires { ⌜ Sound «b_period» «b_distance» (now «b_cells») ⌝ }
+    requires { ⌜ Sound «a_period» «a_distance» (now «a_cells») ⌝ }
+    requires { ⌜ Stands (given «b_period» «b_distance» (now «b_cells»)) (given «a_period» «a_distance» (now «a_cells»)) from ⌝ }
+    ensures { λ r. ⌜ r ≡ inside (given «b_period» «b_distance» (now («b_cells» .entry))) (from .k) (given «a_period» «a_distance» (now («a_cells» .entry))) (from .i) ⌝ }
+{
+    inside_forward(
+        b_cells,
+        b_period,
+        b_distance,
+        a_cells,
+        a_period,
+        a_distance,
+        from,
+    )
+        && inside_back(
+            b_cells,
+            b_period,
+            b_distance,
+            a_cells,
+            a_period,
+            a_distance,
+            from,
+        )
+}
+
 // Whether b's granule of t lies in a's.
 pub fn inside(
     b_cells: &[i32],
@@ -179,7 +214,7 @@ pub fn inside(
     let k = label_of(b_cells, b_period, b_distance, b);
     let i = label_of(a_cells, a_period, a_distance, a);
     let from = Place { b, k, a, i };
-    inside_forward(
+    inside_at(
         b_cells,
         b_period,
         b_distance,
@@ -188,15 +223,6 @@ pub fn inside(
         a_distance,
         from,
     )
-        && inside_back(
-            b_cells,
-            b_period,
-            b_distance,
-            a_cells,
-            a_period,
-            a_distance,
-            from,
-        )
 }
 
 // The label of h whose granule contains g's granule of t, if there is one.

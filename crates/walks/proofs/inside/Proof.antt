@@ -1,9 +1,8 @@
--- `walks::inside` meets its contract: the granule lies in the other if it does on both sides of t.
+-- `walks::inside` meets its contract: t's place is looked at.
 -- Assumes nothing.
 use borrow.Author.Needs.{sfits-of}
-use mathlib.Core.Path.{_≡_, sym, _∙_, ap, ap₂}
+use mathlib.Core.Path.{_≡_, sym, _∙_, ap₂}
 use mathlib.Core.Option.{some}
-use mathlib.Core.Bool.{Bool, _&&_}
 use native.Mathlib.Omega.{arith}
 use lib.IntN.{ℤ}
 use mir.Syntax.{w64}
@@ -19,9 +18,8 @@ use Rattle.rows.specs.Found.{Near}
 use Rattle.rows.specs.Cursor.{cursorAt}
 use Rattle.rows.proofs.Numbers.{valid}
 use Rattle.walks.specs.declared.Place.{Place}
-use Rattle.walks.specs.Sides.{Stands, insideFrom, insideUpTo}
+use Rattle.walks.specs.Sides.{Stands}
 use Rattle.walks.proofs.Places.{stands}
-use Rattle.walks.proofs.Sides.{both-sides}
 use Rattle.walks.proofs.inside.Statement.{statement}
 use Rattle.walks.proofs.inside.Tie as tie
 
@@ -118,8 +116,8 @@ placed c =
     let d = c .before .before in
     stands (b-row s) (a-row s) (rules s) (place c) (s .args .t) (l .1 .0) (l .1 .1) (b-cursor d) (b-label c) (a-cursor d) (a-label c)
 
-inside-forward-requires : tie.Need-inside-forward-requires
-inside-forward-requires c κs =
+inside-at-requires : tie.Need-inside-at-requires
+inside-at-requires c κs =
     let s = begun c in
     let p = s .fits .b-period in
     let n = s .fits .b-distance in
@@ -129,24 +127,9 @@ inside-forward-requires c κs =
     let i = i-fits c in
     simp plain (s .pre .0, (s .pre .1 .0, placed c))
 
-inside-back-requires : tie.Need-inside-back-requires
-inside-back-requires c κs = inside-forward-requires (c .before .before) κs
-
--- what is found on the two sides, and what they are together
-forward : (c : tie.After-inside-forward) → let s = begun (c .before) in c .inside-forward .result ≡ insideFrom (b-row s) (a-row s) (place (c .before))
-forward c =
-    let s = begun (c .before) in
-    let p = s .fits .b-period in
-    let n = s .fits .b-distance in
-    let q = s .fits .a-period in
-    let m = s .fits .a-distance in
-    let k = k-fits (c .before) in
-    let i = i-fits (c .before) in
-    simp plain at (c .inside-forward .ensures)
-
-back : (c : tie.After-inside-back) → let d = c .before .before .before in c .inside-back .result ≡ insideUpTo (b-row (begun d)) (a-row (begun d)) (place d)
-back c =
-    let d = c .before .before .before in
+inside-is : (c : tie.After-inside-at) → let s = begun (c .before) in c .inside-at .result ≡ inside (b-row s) (place (c .before) .k) (a-row s) (place (c .before) .i)
+inside-is c =
+    let d = c .before in
     let s = begun d in
     let p = s .fits .b-period in
     let n = s .fits .b-distance in
@@ -154,30 +137,13 @@ back c =
     let m = s .fits .a-distance in
     let k = k-fits d in
     let i = i-fits d in
-    simp plain at (c .inside-back .ensures)
-
-both : (c : tie.After-label-of2) (k i : ℤ) → let s = begun c in meant (b-row s) (s .args .t) ≡ some k → meant (a-row s) (s .args .t) ≡ some i
-    → insideFrom (b-row s) (a-row s) (place c) && insideUpTo (b-row s) (a-row s) (place c) ≡ inside (b-row s) k (a-row s) i
-both c k i e f =
-    let s = begun c in
-    both-sides (b-row s) (a-row s) (rules s) (place c)
-    ∙ ap₂ (λ (x y : ℤ). inside (b-row s) x (a-row s) y) (some-inj (sym (b-label c) ∙ e)) (some-inj (sym (a-label c) ∙ f))
+    simp plain at (c .inside-at .ensures)
 
 returns : tie.Need-returns
 returns c k i e f =
-    let d = c .before .before .before in
-    back c
-    ∙ ap (λ (x : Bool). x && insideUpTo (b-row (begun d)) (a-row (begun d)) (place d)) (sym (c .before .if1 .taken) ∙ forward (c .before .before))
-    ∙ both d k i e f
-
-returns-2 : tie.Need-returns-2
-returns-2 c k i e f =
-    let d = c .before .before in
-    c .if1 .left
-    ∙ ap (λ (x : Bool). x && insideUpTo (b-row (begun d)) (a-row (begun d)) (place d)) (sym (c .if1 .left) ∙ forward (c .before))
-    ∙ both d k i e f
+    let d = c .before in
+    let s = begun d in
+    inside-is c ∙ ap₂ (λ (x y : ℤ). inside (b-row s) x (a-row s) y) (some-inj (sym (b-label d) ∙ e)) (some-inj (sym (a-label d) ∙ f))
 
 pub inside-spec : {M : Type 1} → statement M
-inside-spec =
-    tie.close
-    (tie.spec cursor-at-requires cursor-at-requires-2 label-of-requires label-of-requires-2 inside-forward-requires inside-back-requires returns returns-2)
+inside-spec = tie.close (tie.spec cursor-at-requires cursor-at-requires-2 label-of-requires label-of-requires-2 inside-at-requires returns)

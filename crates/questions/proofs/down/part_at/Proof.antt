@@ -16,6 +16,10 @@ use Rattle.calendar.specs.Granules.{inside}
 use Rattle.calendar.specs.Questions.{given}
 use Rattle.granules.proofs.Tests.{some-inj, none≢some, true≢false}
 use Rattle.rows.specs.Found.{Near, found}
+use Rattle.rows.proofs.Numbers.{valid}
+use Rattle.walks.specs.declared.Place.{Place}
+use Rattle.walks.specs.Sides.{Stands}
+use Rattle.walks.proofs.Places.{stands}
 use Rattle.questions.specs.declared.down.Part.the-variants.{Next}
 use Rattle.questions.specs.Walk.{PartAt}
 use Rattle.questions.proofs.down.part_at.Statement.{statement}
@@ -123,18 +127,29 @@ returns-4 c =
 
 -- ---- whether its granule lies in h's
 
-inside-requires : tie.Need-inside-requires
-inside-requires c κs =
+abbrev place : tie.After-known-told2 → Place
+place c = let s = start c in record { b = s .args .g; k = label c; a = s .args .h; i = s .args .z }
+
+placed : (c : tie.After-known-told2) → Stands (g-row (start c)) (h-row (start c)) (place c)
+placed c =
+    let s = start c in
+    let l = s .pre .1 .1 .0 in
+    let v = valid (s .args .g-period) (s .args .g-distance) (s .args .g-cells .now) (s .pre .1 .0) in
+    stands (g-row s) (h-row s) v (place c) (s .args .t) (l .0) (l .1) (s .pre .1 .1 .1 .1) (label-some c) (s .pre .1 .1 .1 .0) (in-granule (granule-of c))
+
+inside-at-requires : tie.Need-inside-at-requires
+inside-at-requires c κs =
     let d = c .before in
     let s = start d in
     let p = s .fits .h-period in
     let n = s .fits .h-distance in
     let q = s .fits .g-period in
     let m = s .fits .g-distance in
-    let t = s .fits .t in
-    simp plain (s .pre .1 .0, (s .pre .0, (((label d, label-some d), s .pre .1 .1 .0), ((s .args .z, in-granule (granule-of d)), s .pre .1 .1 .0))))
+    let z = s .fits .z in
+    let k = label-fits d in
+    simp plain (s .pre .1 .0, (s .pre .0, placed d))
 
-inside-is : (c : tie.After-inside) → let d = c .before .before in c .inside .result ≡ inside (g-row (start d)) (label d) (h-row (start d)) (start d .args .z)
+inside-is : (c : tie.After-inside-at) → let d = c .before .before in c .inside-at .result ≡ inside (g-row (start d)) (label d) (h-row (start d)) (start d .args .z)
 inside-is c =
     let d = c .before .before in
     let s = start d in
@@ -142,8 +157,9 @@ inside-is c =
     let n = s .fits .h-distance in
     let q = s .fits .g-period in
     let m = s .fits .g-distance in
-    let t = s .fits .t in
-    (simp plain at (c .inside .ensures)) (label d) (s .args .z) (label-some d) (in-granule (granule-of d))
+    let z = s .fits .z in
+    let k = label-fits d in
+    simp plain at (c .inside-at .ensures)
 
 -- it is not the latest part
 another : (c : tie.Joined2) → let d = c .before in (start d .args .count ≡ 0) ⊎ (label d ≡ start d .args .latest → ⊥)
@@ -182,6 +198,6 @@ part-at-spec =
     enum-told-2
     returns-3
     returns-4
-    inside-requires
+    inside-at-requires
     returns-5
     returns-6)
