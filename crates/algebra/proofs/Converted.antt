@@ -4,6 +4,7 @@ use mathlib.Core.Logic.{_↔_, Iff·symm, Iff·trans}
 use mathlib.Core.Bool.{Bool, true, false, not}
 use Prim.Native.Nat.{ℕ, _*_, _≤_, _<_}
 use native.Mathlib.Nat.{eq-of-mul-eq-mul-right}
+use borrow.Author.Tests.{not-false}
 use native.Mathlib.Omega.{arith}
 use lib.Dec.{leb}
 use lib.IntN.{ℤ}
@@ -30,7 +31,7 @@ use Rattle.algebra.proofs.Operations.{operands-weaken, operands-map, fa
 use Rattle.algebra.proofs.OperandChecks.{fullOperands-iff, aligned-iff}
 use Rattle.algebra.proofs.EmptiedCheck.{emptied-iff}
 use Rattle.algebra.proofs.Right.{right}
-use Rattle.algebra.proofs.Working.{not-false, labelled-some, unlabelled-iff, labelsInRange-iff, working-means, result-calendar, working-valid}
+use Rattle.algebra.proofs.Working.{labelled-some, unlabelled-iff, labelsInRange-iff, working-means, result-calendar, working-valid}
 
 -- the verdict over rows is one over calendars
 abbrev pub JudgedAs : Operation Meant → ℕ → Reply Row → Type 0

@@ -5,6 +5,7 @@ use mathlib.Core.Option.{Option, none, some}
 use mathlib.Core.Bool.{Bool, true, false, not, _&&_}
 use mathlib.Core.List.{List, [], _∷_, map}
 use Prim.Native.Nat.{ℕ, zero, suc, _<_}
+use borrow.Author.Tests.{not-false}
 use native.Mathlib.Omega.{arith}
 use lib.IntN.{ℤ, pos, negℤ, _+ℤ_, _*ℤ_}
 use lib.Signed.{_≤ℤ_, _<ℤ_}
@@ -29,10 +30,6 @@ use Rattle.algebra.specs.Ready.{meaning, Right}
 use Rattle.algebra.specs.TableMeaning.{Labelled, InRange}
 
 -- ---- tests over the working row
-
-pub not-false : (b : Bool) → not b ≡ false → b ≡ true
-not-false true e = refl
-not-false false e = sym e
 
 throughout-iff : (o : Operation Row) (f : Option ℤ → Bool)
     → (throughout o f ≡ true) ↔ ((t : ℤ) → pos 0 ≤ℤ t → t <ℤ pos (size o .period) → f (result o t) ≡ true)

@@ -1,6 +1,6 @@
 -- Replies whose checks passed, or failed.
-use mathlib.Core.Path.{_≡_, refl, sym, ap}
-use mathlib.Core.Bool.{Bool, true, false, not}
+use mathlib.Core.Path.{_≡_, ap}
+use mathlib.Core.Bool.{Bool, true, false}
 use Prim.Native.Nat.{ℕ}
 use Rattle.calendar.specs.Reply.{Reply, require}
 use Rattle.calendar.specs.Reply.Reply.{refused}
@@ -10,8 +10,3 @@ passed n r e = ap (λ (b : Bool). require n b r) e
 
 pub failed : {A : Type 0} (n : ℕ) {b : Bool} (r : Reply A) → b ≡ false → require n b r ≡ refused n
 failed n r e = ap (λ (b : Bool). require n b r) e
-
--- a test whose refusal did not happen
-pub not-false : (b : Bool) → not b ≡ false → b ≡ true
-not-false true e = refl
-not-false false e = sym e

@@ -1,4 +1,5 @@
 -- `questions::figures` meets its contract: 13, or the figures of its three counts, none of which passes the limit.
+use borrow.Author.Tests.{not-false}
 use borrow.Author.Needs.{needs, sfits-of}
 use mathlib.Core.Path.{_≡_, refl, sym, _∙_, ap}
 use mathlib.Core.Bool.{true}
@@ -20,7 +21,6 @@ use Rattle.floats.specs.declared.Figures.{Figures}
 use Rattle.granules.proofs.Tests.{not-iff}
 use Rattle.granules.proofs.Count.{count-at-most, granules-positive, granules-at-most}
 use Rattle.rows.proofs.Numbers.{valid, Numbers, numbers}
-use Rattle.questions.proofs.Replies.{not-false}
 use Rattle.questions.proofs.Lengths.{cast}
 use Rattle.questions.proofs.figures.Statement.{statement}
 use Rattle.questions.proofs.figures.Tie as tie

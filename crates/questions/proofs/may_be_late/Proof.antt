@@ -1,4 +1,5 @@
 -- `questions::may_be_late` meets its contract: 13, 14, 18, and what `judged` says.
+use borrow.Author.Tests.{not-false}
 use borrow.Author.Needs.{needs}
 use mathlib.Core.Path.{_≡_, sym, _∙_, ap, ap₂}
 use mathlib.Core.Bool.{Bool, true, _&&_}
@@ -11,7 +12,7 @@ use Rattle.floats.specs.Allowance as F
 use Rattle.granules.proofs.Tests.{not-iff}
 use Rattle.rows.proofs.Bounds.{in-range}
 use Rattle.questions.specs.Answers.{lateLimit, mayBeLate}
-use Rattle.questions.proofs.Replies.{passed, failed, not-false}
+use Rattle.questions.proofs.Replies.{passed, failed}
 use Rattle.questions.proofs.may_be_late.Statement.{statement}
 use Rattle.questions.proofs.may_be_late.Tie as tie
 

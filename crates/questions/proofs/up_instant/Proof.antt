@@ -4,6 +4,7 @@ use mathlib.Core.Bool.{true, false}
 use mathlib.Core.Option.{Option, some}
 use native.Mathlib.Omega.{arith}
 use lib.IntN.{ℤ}
+use borrow.Author.Tests.{not-false}
 use borrow.Author.Needs.{needs, sfits-of}
 use mir.Facts.{toZ-ofZ}
 use Rattle.integers.proofs.Linear.{ints, _∴_}
@@ -16,7 +17,7 @@ use Rattle.calendar.specs.Questions.{given, upFromInstant}
 use Rattle.granules.proofs.Tests.{not-iff}
 use Rattle.rows.specs.Found.{found, Near}
 use Rattle.rows.proofs.Bounds.{in-range}
-use Rattle.questions.proofs.Replies.{passed, failed, not-false}
+use Rattle.questions.proofs.Replies.{passed, failed}
 use Rattle.questions.proofs.up_instant.Statement.{statement}
 use Rattle.questions.proofs.up_instant.Tie as tie
 

@@ -1,5 +1,6 @@
 -- `questions::down::down` meets its contract: 13 twice, 14, 15, and then what the walk over the granule finds.
 -- Assumes nothing.
+use borrow.Author.Tests.{not-false}
 use borrow.Author.Needs.{needs, sfits-of}
 use mathlib.Core.Path.{_≡_, sym, _∙_, ap, subst}
 use mathlib.Core.Bool.{true, false}
@@ -28,7 +29,6 @@ use Rattle.granules.proofs.Questions.{first-labelled, first-at-most}
 use Rattle.rows.specs.Found.{found, Within}
 use Rattle.rows.proofs.Bounds.{in-range}
 use Rattle.rows.proofs.Numbers.{numbers, valid}
-use Rattle.questions.proofs.Replies.{not-false}
 use Rattle.questions.specs.declared.down.Walked.{Walked}
 use Rattle.questions.specs.declared.down.Walked.the-variants.{Parts, Incomplete}
 use Rattle.questions.specs.Walk.{Begins, Walks}

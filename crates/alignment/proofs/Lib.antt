@@ -1,0 +1,13 @@
+-- The laws that the pass over two rows rests on.
+--     Pairs        what an alignment says of two instants: a labelled one between them, whole periods, and all instants
+--     Fitting      the test of an instant and the labelled one before it
+--     Choices      that test by the outcomes of its parts
+--     Starts       a walk to an instant that has a label
+--     Rising       whether labels rise alike
+--     Passes       a pass over two rows
+pub mod Pairs
+pub mod Fitting
+pub mod Choices
+pub mod Starts
+pub mod Rising
+pub mod Passes

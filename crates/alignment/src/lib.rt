@@ -1,0 +1,302 @@
+// Check 9, how two operands lie to each other, in one pass over their span.
+
+ghost use mathlib.Core.Path.{_≡_};
+ghost use mathlib.Core.Bool.{_||_};
+ghost use lib.IntN.{_*ℤ_};
+ghost use Rattle.calendar.specs.Operation.Alignment.{partition, subcalendar, compatible};
+ghost use Rattle.calendar.specs.Lists.{equal, isSome, sameLabel};
+ghost use Rattle.calendar.specs.Checks.{alignedAs};
+ghost use Rattle.calendar.specs.Questions.{given};
+ghost use Rattle.rows.specs.Found.{found, Sound};
+ghost use Rattle.alignment.specs.Fits as Fits;
+ghost use Rattle.alignment.specs.Fits.{alignmentOf};
+ghost use Rattle.alignment.specs.Pass.{Spanned, RiseAlike, Starts, Limited};
+use rows::Found;
+
+// How a and b may have to lie to each other: as alter asks, as anchor asks, as the set operations ask.
+enum Alignment {
+    Partition,
+    Subcalendar,
+    Compatible,
+}
+
+// An instant of the first turn that has a label.
+fn labelled_instant(cells: &[i32], period: i64, distance: i64) -> i64
+    requires { ⌜ Sound period distance (now cells) ⌝ }
+    ensures { λ r. ⌜ Starts (given period distance (now (cells .entry))) r ⌝ }
+{
+    let mut c = rows::cursor_at(cells, period, distance, 0);
+    let mut t = 0;
+    loop {
+        let label = rows::cursor_label(cells, period, distance, c);
+        match label {
+            Found::At(_) => {
+                return t;
+            }
+            Found::Nothing => {}
+        }
+        c = rows::cursor_next(cells, period, distance, c);
+        t += 1;
+    }
+}
+
+// Whether there is a label.
+fn labelled(x: Found) -> bool
+    ensures { λ r. ⌜ r ≡ isSome (found x) ⌝ }
+{
+    match x {
+        Found::At(_) => true,
+        Found::Nothing => false,
+    }
+}
+
+// Whether there is one of two.
+fn either(x: Found, y: Found) -> bool
+    ensures { λ r. ⌜ r ≡ isSome (found x) || isSome (found y) ⌝ }
+{
+    labelled(x) || labelled(y)
+}
+
+// Whether both are the same label, or none.
+fn same(x: Found, y: Found) -> bool
+    ensures { λ r. ⌜ r ≡ sameLabel (found x) (found y) ⌝ }
+{
+    match x {
+        Found::At(i) => match y {
+            Found::At(j) => i == j,
+            Found::Nothing => false,
+        },
+        Found::Nothing => !labelled(y),
+    }
+}
+
+// Whether an instant with the labels x and y in a and b fits the labelled one before, which has o and p, as alter asks.
+fn fits_partition(o: Found, p: Found, x: Found, y: Found) -> bool
+    ensures { λ r. ⌜ r ≡ Fits.fitsPartition (found o) (found p) (found x) (found y) ⌝ }
+{
+    if labelled(x) {
+        if labelled(y) {
+            if same(o, x) { same(p, y) } else { true }
+        } else {
+            false
+        }
+    } else {
+        !labelled(y)
+    }
+}
+
+// As anchor asks.
+fn fits_subcalendar(o: Found, p: Found, x: Found, y: Found) -> bool
+    ensures { λ r. ⌜ r ≡ Fits.fitsSubcalendar (found o) (found p) (found x) (found y) ⌝ }
+{
+    if labelled(y) {
+        if same(x, y) {
+            if same(o, x) { labelled(p) } else { true }
+        } else {
+            false
+        }
+    } else if labelled(x) {
+        if same(o, x) { !labelled(p) } else { true }
+    } else {
+        true
+    }
+}
+
+// Whether two labels of one instant are the same, where there are two.
+fn agree(x: Found, y: Found) -> bool
+    ensures { λ r. ⌜ r ≡ Fits.agree (found x) (found y) ⌝ }
+{
+    match x {
+        Found::At(i) => match y {
+            Found::At(j) => i == j,
+            Found::Nothing => true,
+        },
+        Found::Nothing => true,
+    }
+}
+
+// Whether a's label before is below b's, or both have it at both instants.
+fn crosses(o: Found, p: Found, x: Found, y: Found) -> bool
+    ensures { λ r. ⌜ r ≡ Fits.crosses (found o) (found p) (found x) (found y) ⌝ }
+{
+    let Found::At(i) = o else {
+        return true;
+    };
+    let Found::At(j) = y else {
+        return true;
+    };
+    if i < j {
+        return true;
+    }
+    if i != j {
+        return false;
+    }
+    if same(o, p) { same(o, x) } else { false }
+}
+
+// As the set operations ask.
+fn fits_compatible(o: Found, p: Found, x: Found, y: Found) -> bool
+    ensures { λ r. ⌜ r ≡ Fits.fitsCompatible (found o) (found p) (found x) (found y) ⌝ }
+{
+    if agree(x, y) {
+        if crosses(o, p, x, y) {
+            crosses(p, o, y, x)
+        } else {
+            false
+        }
+    } else {
+        false
+    }
+}
+
+fn fits(k: Alignment, o: Found, p: Found, x: Found, y: Found) -> bool
+    ensures { λ r. ⌜ r ≡ Fits.fits (alignmentOf k) (found o) (found p) (found x) (found y) ⌝ }
+{
+    match k {
+        Alignment::Partition => fits_partition(o, p, x, y),
+        Alignment::Subcalendar => fits_subcalendar(o, p, x, y),
+        Alignment::Compatible => fits_compatible(o, p, x, y),
+    }
+}
+
+// Whether a and b are aligned: each labelled instant of a span fits the one before, from a labelled one up to the same a span later.
+fn aligned(
+    k: Alignment,
+    a_cells: &[i32],
+    a_period: i64,
+    a_distance: i64,
+    b_cells: &[i32],
+    b_period: i64,
+    b_distance: i64,
+    span: i64,
+) -> bool
+    requires { ⌜ Sound «a_period» «a_distance» (now «a_cells») ⌝ }
+    requires { ⌜ Sound «b_period» «b_distance» (now «b_cells») ⌝ }
+    requires { ⌜ Spanned (given «a_period» «a_distance» (now «a_cells»)) (given «b_period» «b_distance» (now «b_cells»)) span ⌝ }
+    requires { ⌜ RiseAlike (alignmentOf k) (given «a_period» «a_distance» (now «a_cells»)) (given «b_period» «b_distance» (now «b_cells»)) ⌝ }
+    ensures { λ r. ⌜ r ≡ alignedAs (alignmentOf k) (given «a_period» «a_distance» (now («a_cells» .entry))) (given «b_period» «b_distance» (now («b_cells» .entry))) ⌝ }
+{
+    let mut t = labelled_instant(a_cells, a_period, a_distance);
+    let end = t + span;
+    let mut a = rows::cursor_at(a_cells, a_period, a_distance, t);
+    let mut b = rows::cursor_at(b_cells, b_period, b_distance, t);
+    let mut o = rows::cursor_label(a_cells, a_period, a_distance, a);
+    let mut p = rows::cursor_label(b_cells, b_period, b_distance, b);
+    if !fits(k, o, p, o, p) {
+        return false;
+    }
+    while t < end {
+        t += 1;
+        a = rows::cursor_next(a_cells, a_period, a_distance, a);
+        b = rows::cursor_next(b_cells, b_period, b_distance, b);
+        let x = rows::cursor_label(a_cells, a_period, a_distance, a);
+        let y = rows::cursor_label(b_cells, b_period, b_distance, b);
+        if either(x, y) {
+            if !fits(k, o, p, x, y) {
+                return false;
+            }
+            o = x;
+            p = y;
+        }
+    }
+    true
+}
+
+// Whether a and b label the same instants and each granule of a lies in one of b, as alter asks.
+pub fn partitions(
+    a_cells: &[i32],
+    a_period: i64,
+    a_distance: i64,
+    b_cells: &[i32],
+    b_period: i64,
+    b_distance: i64,
+    span: i64,
+) -> bool
+    requires { ⌜ Sound «a_period» «a_distance» (now «a_cells») ⌝ }
+    requires { ⌜ Sound «b_period» «b_distance» (now «b_cells») ⌝ }
+    requires { ⌜ Spanned (given «a_period» «a_distance» (now «a_cells»)) (given «b_period» «b_distance» (now «b_cells»)) span ⌝ }
+    ensures { λ r. ⌜ r ≡ alignedAs partition (given «a_period» «a_distance» (now («a_cells» .entry))) (given «b_period» «b_distance» (now («b_cells» .entry))) ⌝ }
+{
+    aligned(
+        Alignment::Partition,
+        a_cells,
+        a_period,
+        a_distance,
+        b_cells,
+        b_period,
+        b_distance,
+        span,
+    )
+}
+
+// Whether the labels of a and b rise alike: over the span, which is whole turns of both, exactly if they do over a_period · b_period.
+fn rise_alike(a_period: i64, a_distance: i64, b_period: i64, b_distance: i64) -> bool
+    requires { ⌜ Limited «a_period» «a_distance» ⌝ }
+    requires { ⌜ Limited «b_period» «b_distance» ⌝ }
+    ensures { λ r. ⌜ r ≡ equal («a_distance» *ℤ «b_period») («b_distance» *ℤ «a_period») ⌝ }
+{
+    let a = a_distance * b_period;
+    let b = b_distance * a_period;
+    a == b
+}
+
+// Whether each granule of b is the granule of a with that label, as anchor asks.
+pub fn is_subcalendar(
+    a_cells: &[i32],
+    a_period: i64,
+    a_distance: i64,
+    b_cells: &[i32],
+    b_period: i64,
+    b_distance: i64,
+    span: i64,
+) -> bool
+    requires { ⌜ Sound «a_period» «a_distance» (now «a_cells») ⌝ }
+    requires { ⌜ Sound «b_period» «b_distance» (now «b_cells») ⌝ }
+    requires { ⌜ Spanned (given «a_period» «a_distance» (now «a_cells»)) (given «b_period» «b_distance» (now «b_cells»)) span ⌝ }
+    ensures { λ r. ⌜ r ≡ alignedAs subcalendar (given «a_period» «a_distance» (now («a_cells» .entry))) (given «b_period» «b_distance» (now («b_cells» .entry))) ⌝ }
+{
+    if !rise_alike(a_period, a_distance, b_period, b_distance) {
+        return false;
+    }
+    aligned(
+        Alignment::Subcalendar,
+        a_cells,
+        a_period,
+        a_distance,
+        b_cells,
+        b_period,
+        b_distance,
+        span,
+    )
+}
+
+// Whether a shared label has the same instants in both, no instant has two different labels, and all labels of both together never
+// fall, as the set operations ask.
+pub fn compatible(
+    a_cells: &[i32],
+    a_period: i64,
+    a_distance: i64,
+    b_cells: &[i32],
+    b_period: i64,
+    b_distance: i64,
+    span: i64,
+) -> bool
+    requires { ⌜ Sound «a_period» «a_distance» (now «a_cells») ⌝ }
+    requires { ⌜ Sound «b_period» «b_distance» (now «b_cells») ⌝ }
+    requires { ⌜ Spanned (given «a_period» «a_distance» (now «a_cells»)) (given «b_period» «b_distance» (now «b_cells»)) span ⌝ }
+    ensures { λ r. ⌜ r ≡ alignedAs compatible (given «a_period» «a_distance» (now («a_cells» .entry))) (given «b_period» «b_distance» (now («b_cells» .entry))) ⌝ }
+{
+    if !rise_alike(a_period, a_distance, b_period, b_distance) {
+        return false;
+    }
+    aligned(
+        Alignment::Compatible,
+        a_cells,
+        a_period,
+        a_distance,
+        b_cells,
+        b_period,
+        b_distance,
+        span,
+    )
+}
