@@ -47,8 +47,8 @@ agrees a b t u =
     ifLabel (meant a t) λ i. ifLabel (meant b u) λ j.
     (not (leZ t u) || leZ i j) && ((not (leZ u t) || leZ j i) && (not (equal i j) || (is i (meant b t) && is i (meant a u))))
 
--- the test passes at each t of one span and each u at most a span away. Where the labels rise alike, that decides it
--- for all instants
+-- the test passes at each t of one span and each u at most a span away. That decides it for all instants: of a
+-- partition always, of the others where the labels rise alike
 abbrev pub everywhere : Row → Row → (ℤ → ℤ → Bool) → Bool
 everywhere a b f = let s = spanOf (turn a) (turn b) in all (λ t. all (f t) (from (t -ℤ pos s) (suc (2 * s)))) (from (pos 0) s)
 

@@ -66,7 +66,7 @@ resultUnary (group x) a t = Option·map (λ j. ceilDiv j x) (meant a t)
 resultUnary (shift x) a t = raise x (meant a t)
 resultUnary (renumber x) a t = Option·map (renumbered a x) (meant a t)
 
--- the granule j of a is kept, t being one of its instants
+-- the granule j of a is kept: each granule of b that counts for it meets it
 abbrev pub selects : Selection → Row → Row → ℤ → Bool
 selects (select-down x y) a b j = any (λ i. any (equal j) (pick x y (within a b i))) (meeting b a j)
 selects select-up a b j = any (λ k. inside b k a j) (meeting b a j)
