@@ -1,0 +1,135 @@
+-- The members of a rising list at positions in a row: those from the first to the last of them.
+-- Assumes nothing.
+use mathlib.Core.Path.{_≡_, refl}
+use mathlib.Core.Logic.{_↔_, _⊎_, inl, inr, ⊎-elim, ⊎-map}
+use mathlib.Core.Bool.{Bool, true, false, cond, _&&_}
+use mathlib.Core.List.{List, [], _∷_, List·Memᴰ, List·Memᴰ·head, List·Memᴰ·tail, List·Memᴰ·not-nil, List·Memᴰ·cases-cons}
+use native.Mathlib.Omega.{arith}
+use lib.IntN.{ℤ, pos, _+ℤ_}
+use lib.Signed.{_≤ℤ_, _<ℤ_, leZ}
+use Rattle.integers.proofs.Linear.{ints, _∴_}
+use Rattle.integers.proofs.Order.{le-or-lt}
+use Rattle.calendar.specs.Algebra.{Rising, positions}
+use Rattle.calendar.specs.Lists.{any, equal, first, last}
+use Rattle.granules.proofs.Tests.{true≢false, and-iff, test-ext, equal-iff, leZ-iff}
+use Rattle.granules.proofs.Lists.{any-iff, rising-head, rising-tail, rising-cons, first-least, last-greatest}
+use Rattle.selections.specs.Tallies.{filled}
+
+-- the position p is one of those from lo to hi
+abbrev pub asked : ℤ → ℤ → ℤ → Bool
+asked lo hi p = leZ lo p && leZ p hi
+
+pub asked-iff : (lo hi p : ℤ) → (asked lo hi p ≡ true) ↔ ((lo ≤ℤ p) × (p ≤ℤ hi))
+asked-iff lo hi p = (
+  λ e. let h = and-iff (leZ lo p) (leZ p hi) .0 e in (leZ-iff lo p .0 (h .0), leZ-iff p hi .0 (h .1)),
+  λ h. and-iff (leZ lo p) (leZ p hi) .1 (leZ-iff lo p .1 (h .0), leZ-iff p hi .1 (h .1)),
+)
+
+-- ---- members
+
+module _ (lo hi : ℤ) where
+  -- a member that is taken: the head, if its position is asked for, or one of the others
+  taken-cons : (p j x : ℤ) (l : List ℤ) → List·Memᴰ j (positions lo hi p (x ∷ l)) ↔ (((j ≡ x) × (asked lo hi p ≡ true)) ⊎ List·Memᴰ j (positions lo hi (p +ℤ pos 1) l))
+  taken-cons p j x l = by (asked lo hi p) (positions lo hi (p +ℤ pos 1) l)
+    where
+      by : (b : Bool) (m : List ℤ) → List·Memᴰ j (cond b (x ∷ m) m) ↔ (((j ≡ x) × (b ≡ true)) ⊎ List·Memᴰ j m)
+      by true m = (λ n. ⊎-map (λ e. (e, refl)) (λ n. n) (List·Memᴰ·cases-cons n), ⊎-elim (λ e. List·Memᴰ·head (e .0)) (λ n. List·Memᴰ·tail n))
+      by false m = (λ n. inr n, ⊎-elim (λ e. absurd (true≢false (e .1) refl)) (λ n. n))
+
+  taken-member : (p j : ℤ) (l : List ℤ) → List·Memᴰ j (positions lo hi p l) → List·Memᴰ j l
+  taken-member p j [] m = m
+  taken-member p j (x ∷ l) m = ⊎-elim (λ e. List·Memᴰ·head (e .0)) (λ n. List·Memᴰ·tail (taken-member (p +ℤ pos 1) j l n)) (taken-cons p j x l .0 m)
+
+  taken-rising : (p : ℤ) (l : List ℤ) → Rising l → Rising (positions lo hi p l)
+  taken-rising p [] r = tt
+  taken-rising p (x ∷ l) r = by (asked lo hi p) (taken-rising (p +ℤ pos 1) l (rising-tail x l r))
+    where
+      m : List ℤ
+      m = positions lo hi (p +ℤ pos 1) l
+
+      by : (b : Bool) → Rising m → Rising (cond b (x ∷ m) m)
+      by true s = rising-cons x m (λ k n. rising-head x l r k (taken-member (p +ℤ pos 1) k l n)) s
+      by false s = s
+
+  -- behind the last position nothing is taken
+  none-behind : (p k : ℤ) (l : List ℤ) → hi <ℤ p → List·Memᴰ k (positions lo hi p l) → ⊥
+  none-behind p k [] h m = List·Memᴰ·not-nil m
+  none-behind p k (x ∷ l) h m =
+      ⊎-elim (λ (e : (k ≡ x) × (asked lo hi p ≡ true)). asked-iff lo hi p .0 (e .1) .1 ∴ h ∴ simp ints (omega arith)) (none-behind (p +ℤ pos 1) k l (h ∴ simp ints (omega arith))) (taken-cons p k x l .0 m)
+
+  -- from the first position on, what stands before a member that is taken is taken
+  taken-before : (p j k : ℤ) (l : List ℤ) → Rising l → lo ≤ℤ p → List·Memᴰ j l → List·Memᴰ k (positions lo hi p l) → j ≤ℤ k → List·Memᴰ j (positions lo hi p l)
+  taken-before p j k [] r h n m o = n
+  taken-before p j k (x ∷ l) r h n m o =
+      taken-cons p j x l .1
+      (by (taken-cons p k x l .0 m) (List·Memᴰ·cases-cons n) (λ n m. taken-before (p +ℤ pos 1) j k l (rising-tail x l r) (h ∴ simp ints (omega arith)) n m o))
+    where
+      Rest : ℤ → Type 0
+      Rest j = List·Memᴰ j (positions lo hi (p +ℤ pos 1) l)
+
+      within : Rest k → p ≤ℤ hi
+      within m = ⊎-elim (λ (g : p ≤ℤ hi). g) (λ (g : hi <ℤ p). absurd (none-behind (p +ℤ pos 1) k l (g ∴ simp ints (omega arith)) m)) (le-or-lt p hi)
+
+      by : ((k ≡ x) × (asked lo hi p ≡ true)) ⊎ Rest k → (j ≡ x) ⊎ List·Memᴰ j l → (List·Memᴰ j l → Rest k → Rest j) → ((j ≡ x) × (asked lo hi p ≡ true)) ⊎ Rest j
+      by (inl e) (inl q) ih = inl (q, e .1)
+      by (inl e) (inr n) ih = absurd (rising-head x l r j n ∴ o ∴ e .0 ∴ simp ints (omega arith))
+      by (inr m) (inl q) ih = inl (q, asked-iff lo hi p .1 (h, within m))
+      by (inr m) (inr n) ih = inr (ih n m)
+
+  -- what stands between two that are taken is taken
+  taken-between : (p i j k : ℤ) (l : List ℤ) → Rising l → List·Memᴰ j l → List·Memᴰ i (positions lo hi p l) → List·Memᴰ k (positions lo hi p l) → i ≤ℤ j → j ≤ℤ k
+      → List·Memᴰ j (positions lo hi p l)
+  taken-between p i j k [] r n m o g h = n
+  taken-between p i j k (x ∷ l) r n m o g h =
+      taken-cons p j x l .1
+      (by (taken-cons p i x l .0 m) (List·Memᴰ·cases-cons n) (taken-cons p k x l .0 o) (λ n m o. taken-between (p +ℤ pos 1) i j k l (rising-tail x l r) n m o g h))
+    where
+      Rest : ℤ → Type 0
+      Rest j = List·Memᴰ j (positions lo hi (p +ℤ pos 1) l)
+
+      Here : ℤ → Type 0
+      Here j = (j ≡ x) × (asked lo hi p ≡ true)
+
+      by : Here i ⊎ Rest i → (j ≡ x) ⊎ List·Memᴰ j l → Here k ⊎ Rest k → (List·Memᴰ j l → Rest i → Rest k → Rest j) → Here j ⊎ Rest j
+      by (inl e) (inl q) o ih = inl (q, e .1)
+      by (inl e) (inr n) (inl f) ih = absurd (rising-head x l r j n ∴ h ∴ f .0 ∴ simp ints (omega arith))
+      by (inl e) (inr n) (inr o) ih = inr (taken-before (p +ℤ pos 1) j k l (rising-tail x l r) (asked-iff lo hi p .0 (e .1) .0 ∴ simp ints (omega arith)) n o h)
+      by (inr m) (inl q) o ih = absurd (rising-head x l r i (taken-member (p +ℤ pos 1) i l m) ∴ g ∴ q ∴ simp ints (omega arith))
+      by (inr m) (inr n) (inl f) ih = absurd (rising-head x l r j n ∴ h ∴ f .0 ∴ simp ints (omega arith))
+      by (inr m) (inr n) (inr o) ih = inr (ih n m o)
+
+-- ---- as tests
+
+mem-any : (j : ℤ) (l : List ℤ) → (any (equal j) l ≡ true) ↔ List·Memᴰ j l
+mem-any j l = (
+  λ e. let h = any-iff (equal j) l .0 e in rw (equal-iff j (h .0) .0 (h .2)) (h .1),
+  λ m. any-iff (equal j) l .1 (j, m, equal-iff j j .1 refl),
+)
+
+mem-filled : (j : ℤ) (l : List ℤ) → List·Memᴰ j l → filled l ≡ true
+mem-filled j [] m = absurd (List·Memᴰ·not-nil m)
+mem-filled j (x ∷ l) m = refl
+
+filled-mem : (l : List ℤ) → filled l ≡ true → (j : ℤ) × List·Memᴰ j l
+filled-mem [] e = absurd (true≢false e refl)
+filled-mem (x ∷ l) e = (x, List·Memᴰ·head refl)
+
+-- j is at one of the positions exactly if it is a member and not outside the first and the last of those
+pub at-positions : (lo hi p : ℤ) (l : List ℤ) → Rising l → (j : ℤ)
+    → let m = positions lo hi p l in any (equal j) m ≡ (any (equal j) l && (filled m && (leZ (first m) j && leZ j (last m))))
+at-positions lo hi p l r j =
+    let m = positions lo hi p l in
+    let s = taken-rising lo hi p l r in
+    let between = asked-iff (first m) (last m) j in
+    let rest = and-iff (filled m) (asked (first m) (last m) j) in
+    let both = and-iff (any (equal j) l) (filled m && asked (first m) (last m) j) in
+    test-ext
+    (λ e.
+    let n = mem-any j m .0 e in
+    both .1 (mem-any j l .1 (taken-member lo hi p j l n), rest .1 (mem-filled j m n, between .1 (first-least j m s n .1, last-greatest j m s n .1))))
+    (λ e.
+    let n = mem-any j l .0 (both .0 e .0) in
+    let f = rest .0 (both .0 e .1) in
+    let b = between .0 (f .1) in
+    let k = filled-mem m (f .0) in
+    mem-any j m .1 (taken-between lo hi p (first m) j (last m) l r n (first-least (k .0) m s (k .1) .0) (last-greatest (k .0) m s (k .1) .0) (b .0) (b .1)))
