@@ -1,0 +1,86 @@
+-- Walks over the instants of a row: to one whose label is not below j, and to the first that has a label.
+-- Assumes nothing.
+use mathlib.Core.Path.{_≡_, refl, sym, _∙_, ap}
+use mathlib.Core.Option.{Option, none, some}
+use mathlib.Core.Bool.{true, false}
+use Prim.Native.Nat.{_+_, _≤_, _<_}
+use native.Mathlib.Omega.{arith}
+use lib.IntN.{ℤ, pos, _+ℤ_}
+use lib.Signed.{_≤ℤ_, _<ℤ_}
+use Rattle.integers.proofs.Linear.{ints, _∴_}
+use Rattle.integers.proofs.Order.{≤ℤ-antisym, Cases, cases}
+use Rattle.integers.proofs.Order.Cases.{below, equal, above}
+use Rattle.calendar.specs.Meaning.{Row, meant}
+use Rattle.calendar.specs.Checks.{poolLimit}
+use Rattle.granules.specs.Valid.{Valid}
+use Rattle.granules.proofs.Tests.{none≢some, true≢false, leZ-iff}
+use Rattle.granules.proofs.Calendars.{labelled-near}
+use Rattle.granules.proofs.Rows.{meant-repeats}
+use Rattle.rows.specs.declared.Cursor.{Cursor}
+use Rattle.rows.specs.Cursor.{cursorAt}
+use Rattle.alterations.specs.declared.behind.Place.{Place}
+use Rattle.alterations.specs.Follows.{atLeast, Seeks, Opens}
+
+-- ---- to a label that is not below j
+
+module _ (r : Row) (v : Valid r) (j : ℤ) (p : Place) (s : Seeks r p j) where
+  -- where it is, the label is j: labels never fall, and j is ahead
+  pub seek-ends : atLeast j (meant r (pos (p .index))) ≡ true → meant r (pos (p .index)) ≡ some j
+  seek-ends e = go (meant r (pos (p .index))) refl e
+    where
+      go : (o : Option ℤ) → meant r (pos (p .index)) ≡ o → atLeast j o ≡ true → o ≡ some j
+      go none f e = absurd (true≢false e refl)
+      go (some k) f e = ap some (≤ℤ-antisym (v .ordered (pos (p .index)) (s .there) k j (s .ahead) f (s .label)) (leZ-iff j k .0 e))
+
+  -- where it is not, j is farther ahead
+  pub seek-ahead : atLeast j (meant r (pos (p .index))) ≡ false → pos (p .index) <ℤ s .there
+  seek-ahead e = go (cases (pos (p .index)) (s .there))
+    where
+      go : Cases (pos (p .index)) (s .there) → pos (p .index) <ℤ s .there
+      go (below h) = h
+      go (equal h) = absurd (true≢false (leZ-iff j j .1 (simp ints (omega arith))) (sym (ap (atLeast j) (ap (meant r) h ∙ s .label)) ∙ e))
+      go (above h) = absurd (h ∴ s .ahead ∴ simp ints (omega arith))
+
+  pub seek-past : (q : Place) → q .index ≡ p .index + 1 → q .cursor ≡ cursorAt r (pos (p .index) +ℤ pos 1) → atLeast j (meant r (pos (p .index))) ≡ false → Seeks r q j
+  seek-past q step c e = record {
+    cursor = c ∙ ap (cursorAt r) (step ∴ simp ints (omega arith));
+    there = s .there;
+    ahead = seek-ahead e ∴ step ∴ simp ints (omega arith);
+    near = s .near;
+    label = s .label;
+  }
+
+  pub seek-near : p .index ≤ poolLimit
+  seek-near = omega (arith, simp ints at (s .ahead), simp ints at (s .near))
+
+  pub seek-left : atLeast j (meant r (pos (p .index))) ≡ false → p .index < poolLimit
+  seek-left e = omega (arith, simp ints at (seek-ahead e), simp ints at (s .near))
+
+-- ---- to the first label from 0 on
+
+-- the walk is at t, and no instant before has a label
+pub record Looks (r : Row) (c : Cursor) (t : ℤ) : Type 0 where
+  pub cursor : c ≡ cursorAt r t
+  pub low : pos 0 ≤ℤ t
+  pub before : (u j : ℤ) → pos 0 ≤ℤ u → meant r u ≡ some j → t ≤ℤ u
+
+module _ (r : Row) (v : Valid r) where
+  pub looks-start : (c : Cursor) → c ≡ cursorAt r (pos 0) → Looks r c (pos 0)
+  looks-start c e = record { cursor = e; low = simp ints (omega arith); before = λ u j h _. h }
+
+  module _ (c : Cursor) (t : ℤ) (w : Looks r c t) where
+    pub looks-past : (d : Cursor) (u : ℤ) → u ≡ t +ℤ pos 1 → d ≡ cursorAt r u → meant r t ≡ none → Looks r d u
+    looks-past d u step e n = record { cursor = e; low = w .low ∴ step ∴ simp ints (omega arith); before = λ x j h l. go x j l (w .before x j h l) (cases x t) }
+      where
+        go : (x j : ℤ) → meant r x ≡ some j → t ≤ℤ x → Cases x t → u ≤ℤ x
+        go x j l h (below k) = absurd (h ∴ k ∴ simp ints (omega arith))
+        go x j l h (equal k) = absurd (none≢some (sym n ∙ ap (meant r) (sym k) ∙ l))
+        go x j l h (above k) = step ∴ k ∴ simp ints (omega arith)
+
+    pub looks-high : t <ℤ pos (r .period)
+    looks-high =
+        let n = labelled-near (meant r) (r .period) (r .distance) (meant-repeats r (v .positive .0)) (v .positive .0) (v .label) (v .labelled) (pos 0) in
+        w .before (n .0) (n .1) (n .2) (n .4) ∴ n .3 ∴ simp ints (omega arith)
+
+    pub looks-ends : (j : ℤ) → meant r t ≡ some j → Opens r (record { t = t; j = j })
+    looks-ends j h = record { low = w .low; high = looks-high; label = h; is-first = w .before }

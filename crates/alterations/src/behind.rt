@@ -1,0 +1,59 @@
+// A walk over the instants of a behind the scan.
+
+ghost use mathlib.Core.Path.{_≡_};
+ghost use mathlib.Core.Option.{some};
+ghost use Prim.Native.Nat.{_<_};
+ghost use lib.IntN.{pos};
+ghost use lib.ListN.{length, getD};
+ghost use mir.Syntax.{w32};
+ghost use mir.Val.{SFits};
+ghost use Rattle.calendar.specs.Meaning.{meant, empty};
+ghost use Rattle.calendar.specs.Questions.{given};
+ghost use Rattle.rows.specs.Found.{found, Sound};
+ghost use Rattle.rows.specs.Cursor.{cursorAt};
+ghost use Rattle.alterations.specs.Follows.{atLeast, Seeks};
+use rows::Cursor;
+use rows::Found;
+
+// An instant, with its cursor in a.
+pub struct Place {
+    pub index: usize,
+    pub cursor: Cursor,
+}
+
+// Whether there is a label, and it is not below j.
+fn at_least(label: Found, j: i64) -> bool
+    ensures { λ r. ⌜ r ≡ atLeast j (found label) ⌝ }
+{
+    match label {
+        Found::At(k) => j <= k,
+        Found::Nothing => false,
+    }
+}
+
+// On to an instant of a's granule j.
+pub fn seek(from: Place, j: i64, cells: &[i32], period: i64, distance: i64) -> Place
+    requires { ⌜ Sound period distance (now cells) ⌝ }
+    requires { ⌜ Seeks (given period distance (now cells)) from j ⌝ }
+    ensures cursor { λ r. ⌜ r .cursor ≡ cursorAt (given period distance (now (cells .entry))) (pos (r .index)) ⌝ }
+    ensures label { λ r. ⌜ meant (given period distance (now (cells .entry))) (pos (r .index)) ≡ some j ⌝ }
+{
+    let mut index = from.index;
+    let mut cursor = from.cursor;
+    loop {
+        let label = rows::cursor_label(cells, period, distance, cursor);
+        if at_least(label, j) {
+            return Place { index, cursor };
+        }
+        cursor = rows::cursor_next(cells, period, distance, cursor);
+        index += 1;
+    }
+}
+
+// The label written at the index, which is a number of 32 bits.
+pub fn written_at(written: &[i32], i: usize) -> i64
+    requires { ⌜ i < length (now written) ⌝ }
+    ensures { λ r. ⌜ (r ≡ getD (now (written .entry)) i empty) × SFits w32 r ⌝ }
+{
+    written[i] as i64
+}

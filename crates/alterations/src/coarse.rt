@@ -1,0 +1,103 @@
+// The coarse granules, one behind the other, each by where it begins.
+
+ghost use mathlib.Core.Path.{_≡_};
+ghost use mathlib.Core.Option.{some};
+ghost use Prim.Native.Nat.{_^_};
+ghost use lib.IntN.{ℤ, pos, _+ℤ_, _-ℤ_};
+ghost use lib.Signed.{_≤ℤ_, _<ℤ_};
+ghost use Rattle.calendar.specs.Meaning.{meant, Full};
+ghost use Rattle.calendar.specs.Algebra.{Partition};
+ghost use Rattle.calendar.specs.Questions.{given};
+ghost use Rattle.rows.specs.Found.{Sound, Within};
+ghost use Rattle.rows.specs.Cursor.{cursorAt};
+ghost use Rattle.walks.specs.Places.{Shown};
+ghost use Rattle.alterations.specs.Begins.{at, Begins};
+use rows::Cursor;
+use rows::Found;
+
+// Where b's granule i begins, with the label p of a there: the first granule of a in it.
+pub struct Begin {
+    pub i: i64,
+    pub p: i64,
+    pub a: Cursor,
+    pub b: Cursor,
+}
+
+// The label of the cursor's instant, which has one.
+fn label_of(cells: &[i32], period: i64, distance: i64, c: Cursor) -> i64
+    requires { ⌜ Sound period distance (now cells) ⌝ }
+    requires { ⌜ Shown (given period distance (now cells)) c ⌝ }
+    ensures { λ r. ⌜ ((u : ℤ) → c ≡ cursorAt (given period distance (now (cells .entry))) u → meant (given period distance (now (cells .entry))) u ≡ some r) ⌝ }
+{
+    let label = rows::cursor_label(cells, period, distance, c);
+    let Found::At(j) = label else {
+        return 0;
+    };
+    j
+}
+
+// Where b's granule of t begins.
+pub fn begin_at(
+    t: i64,
+    a_cells: &[i32],
+    a_period: i64,
+    a_distance: i64,
+    b_cells: &[i32],
+    b_period: i64,
+    b_distance: i64,
+) -> Begin
+    requires { ⌜ Sound «a_period» «a_distance» (now «a_cells») ⌝ }
+    requires { ⌜ Sound «b_period» «b_distance» (now «b_cells») ⌝ }
+    requires { ⌜ Full (meant (given «a_period» «a_distance» (now «a_cells»))) × Full (meant (given «b_period» «b_distance» (now «b_cells»))) ⌝ }
+    requires { ⌜ Partition (meant (given «a_period» «a_distance» (now «a_cells»))) (meant (given «b_period» «b_distance» (now «b_cells»))) ⌝ }
+    requires { ⌜ Within (2 ^ 50) t ⌝ }
+    requires { ⌜ ((i : ℤ) × (meant (given «b_period» «b_distance» (now «b_cells»)) t ≡ some i)) ⌝ }
+    ensures begins { λ r. ⌜ Begins (given «a_period» «a_distance» (now («a_cells» .entry))) (given «b_period» «b_distance» (now («b_cells» .entry))) r ⌝ }
+    ensures of { λ r. ⌜ meant (given «b_period» «b_distance» (now («b_cells» .entry))) t ≡ some (r .i) ⌝ }
+    ensures near { λ r. ⌜ ((t -ℤ «b_period») ≤ℤ at (given «b_period» «b_distance» (now («b_cells» .entry))) r) × (at (given «b_period» «b_distance» (now («b_cells» .entry))) r ≤ℤ t) ⌝ }
+{
+    let v = rows::first_instant(b_cells, b_period, b_distance, t);
+    let a = rows::cursor_at(a_cells, a_period, a_distance, v);
+    let b = rows::cursor_at(b_cells, b_period, b_distance, v);
+    let p = label_of(a_cells, a_period, a_distance, a);
+    let i = label_of(b_cells, b_period, b_distance, b);
+    Begin { i, p, a, b }
+}
+
+// Where the next granule of b begins.
+pub fn following(
+    c: Begin,
+    a_cells: &[i32],
+    a_period: i64,
+    a_distance: i64,
+    b_cells: &[i32],
+    b_period: i64,
+    b_distance: i64,
+) -> Begin
+    requires { ⌜ Sound «a_period» «a_distance» (now «a_cells») ⌝ }
+    requires { ⌜ Sound «b_period» «b_distance» (now «b_cells») ⌝ }
+    requires { ⌜ Full (meant (given «a_period» «a_distance» (now «a_cells»))) × Full (meant (given «b_period» «b_distance» (now «b_cells»))) ⌝ }
+    requires { ⌜ Partition (meant (given «a_period» «a_distance» (now «a_cells»))) (meant (given «b_period» «b_distance» (now «b_cells»))) ⌝ }
+    requires { ⌜ Begins (given «a_period» «a_distance» (now «a_cells»)) (given «b_period» «b_distance» (now «b_cells»)) c ⌝ }
+    requires { ⌜ Within (2 ^ 58) (at (given «b_period» «b_distance» (now «b_cells»)) c) ⌝ }
+    ensures begins { λ r. ⌜ Begins (given «a_period» «a_distance» (now («a_cells» .entry))) (given «b_period» «b_distance» (now («b_cells» .entry))) r ⌝ }
+    ensures of { λ r. ⌜ r .i ≡ c .i +ℤ pos 1 ⌝ }
+    ensures near { λ r. ⌜ (at (given «b_period» «b_distance» (now («b_cells» .entry))) c <ℤ at (given «b_period» «b_distance» (now («b_cells» .entry))) r) × (at (given «b_period» «b_distance» (now («b_cells» .entry))) r ≤ℤ (at (given «b_period» «b_distance» (now («b_cells» .entry))) c +ℤ «b_period»)) ⌝ }
+{
+    let mut a = c.a;
+    let mut b = c.b;
+    loop {
+        a = rows::cursor_next(a_cells, a_period, a_distance, a);
+        b = rows::cursor_next(b_cells, b_period, b_distance, b);
+        let label = rows::cursor_label(b_cells, b_period, b_distance, b);
+        match label {
+            Found::At(i) => {
+                if i != c.i {
+                    let p = label_of(a_cells, a_period, a_distance, a);
+                    return Begin { i, p, a, b };
+                }
+            }
+            Found::Nothing => {}
+        }
+    }
+}
