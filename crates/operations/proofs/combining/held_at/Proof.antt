@@ -1,0 +1,65 @@
+-- `operations::combining::held_at` meets its contract: what is known is of the place's granules, or the walk from the place says it.
+-- Assumes nothing.
+use borrow.Author.Needs.{needs, sfits-of}
+use mathlib.Core.Path.{_≡_, refl, _∙_, ap₂}
+use lib.IntN.{ℤ}
+use mir.Facts.{toZ-ofZ}
+use mir.Syntax.{w64}
+use Rattle.integers.proofs.Machine.{plain, test-eq}
+use Rattle.calendar.specs.Meaning.{Row}
+use Rattle.calendar.specs.Granules.{inside}
+use Rattle.calendar.specs.Questions.{given}
+use Rattle.operations.proofs.combining.held_at.Statement.{statement}
+use Rattle.operations.proofs.combining.held_at.Tie as tie
+
+abbrev a-row : tie.Start → Row
+a-row s = given (s .args .a-period) (s .args .a-distance) (s .args .a-cells .now)
+
+abbrev b-row : tie.Start → Row
+b-row s = given (s .args .b-period) (s .args .b-distance) (s .args .b-cells .now)
+
+-- ---- the granules are those that are known of
+
+abbrev first : tie.Then2 → tie.Start
+first c = c .before .before .before .before .before .before
+
+same-k : (c : tie.Then2) → first c .args .held .k ≡ first c .args .from .k
+same-k c =
+    let d = c .before in
+    test-eq w64 _ _ (sfits-of (d .before .before .struct-told .given .1 .0 .1)) (sfits-of (d .struct-told2 .given .1 .0 .1)) .0 (c .if2 .taken)
+
+same-i : (c : tie.Then3) → let s = first (c .before .before .before .before .before) in s .args .held .i ≡ s .args .from .i
+same-i c =
+    let d = c .before in
+    test-eq w64 _ _ (sfits-of (d .before .before .struct-told3 .given .1 .1 .0 .1)) (sfits-of (d .struct-told4 .given .1 .1 .1 .0 .1)) .0 (c .if3 .taken)
+
+returns : tie.Need-returns
+returns c =
+    let d = c .before .before .before .before .before in
+    let s = first d in
+    let known = d .before .before .before .before .before .if1 .taken in
+    let k = same-k d in
+    let i = same-i c in
+    (known, ((k, i), s .pre .1 .1 .1 known ∙ ap₂ (λ (k : ℤ) (i : ℤ). inside (b-row s) k (a-row s) i) k i))
+
+-- ---- they are not
+
+inside-at-requires : tie.Need-inside-at-requires
+inside-at-requires c κs = search needs
+
+inside-is : (c : tie.After-inside-at) → let s = c .before .before in c .inside-at .result ≡ inside (b-row s) (s .args .from .k) (a-row s) (s .args .from .i)
+inside-is c =
+    let s = c .before .before in
+    let p = s .fits .a-period in
+    let n = s .fits .a-distance in
+    let q = s .fits .b-period in
+    let m = s .fits .b-distance in
+    simp plain at (c .inside-at .ensures)
+
+returns-2 : tie.Need-returns-2
+returns-2 c =
+    let told = c .struct-told5 .given in
+    (refl, ((toZ-ofZ (sfits-of (told .1 .0 .1)), toZ-ofZ (sfits-of (told .1 .1 .1 .0 .1))), inside-is (c .before)))
+
+pub held-at-spec : {M : Type 1} → statement M
+held-at-spec = tie.close (tie.spec returns inside-at-requires returns-2)
