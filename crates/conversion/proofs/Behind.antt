@@ -1,0 +1,161 @@
+-- The rows of a pool with one more behind them.
+-- Assumes nothing.
+use mathlib.Core.Path.{_≡_, refl, sym, _∙_, ap, ap₂, subst}
+use mathlib.Core.Logic.{⊎-elim}
+use mathlib.Core.Bool.{true}
+use mathlib.Core.List.{List, [], _∷_, _++_, append-assoc, append-nil, List·Memᴰ, List·Memᴰ·head, List·Memᴰ·tail, List·Memᴰ·append-cases, List·Memᴰ·eq-of-singleton}
+use Prim.Native.Nat.{ℕ, _+_, _-_, _*_, _≤_}
+use native.Mathlib.Omega.{arith}
+use lib.IntN.{ℤ}
+use lib.ListN.{length, getD, take, drop, replicate, length-append, length-replicate}
+use lib.Seq.{take-at, drop-at, drop-drop}
+use Rattle.calendar.specs.Meaning.{Row, empty}
+use Rattle.calendar.specs.Operation.{Operation}
+use Rattle.calendar.specs.Checks.{sound, poolLimit}
+use Rattle.calendar.specs.Reply.{Reply, andThen}
+use Rattle.calendar.specs.Reply.Reply.{refused, answer}
+use Rattle.calendar.specs.Table.{Entry, entryAt, named, converted, judged, atRows, bottomRow}
+use Rattle.calendar.specs.Stored.{joined, headingsFrom, filled}
+use Rattle.granules.proofs.Sound.{sound-valid}
+use Rattle.algebra.proofs.Operations.{operands-weaken, operands-map, factor-map}
+use Rattle.algebra.proofs.Answered.{converted-sound}
+use Rattle.algebra.proofs.Named.{named-operation}
+use Rattle.algebra.proofs.Steps.{judged-is}
+use Rattle.conversion.specs.declared.Entry as Code
+use Rattle.conversion.specs.declared.Entry.the-variants.{Refused, Ends}
+use Rattle.conversion.specs.Stores.{Stores, Entered}
+use Rattle.conversion.specs.Entering.{Added, Became}
+use Rattle.conversion.proofs.Cells.{drop-alike}
+use Rattle.conversion.proofs.AtRows.{getD-mem}
+
+-- ---- the row of an entry that is answered
+
+entry-sound : (l : List Row) (room : ℕ) (e : Entry) (r : Row) → ((s : Row) → List·Memᴰ s l → sound s ≡ true) → room ≤ poolLimit
+    → judged l room e ≡ answer r → (sound r ≡ true) × (r .period ≤ room)
+entry-sound l room e r h limit j = by (named (length l) e) refl (sym (judged-is l room e) ∙ j)
+  where
+    by : (x : Reply (Operation ℕ)) → named (length l) e ≡ x → andThen x (λ o. converted (atRows l o) room) ≡ answer r → (sound r ≡ true) × (r .period ≤ room)
+    by (refused n) p q = let z : _≡_ {A = ℕ} 0 1 = cc in absurd (omega arith)
+    by (answer o) p q =
+        let n = named-operation (length l) e o p in
+        let at : ℕ → Row = λ k. getD l k bottomRow in
+        converted-sound (atRows l o) room r
+        (operands-map at (λ s. sound s ≡ true) o (operands-weaken (λ k b. h (at k) (getD-mem l bottomRow k b)) o (n .1)))
+        (factor-map at o (n .0)) limit q
+
+-- ---- one behind the others
+
+joined-behind : (l : List Row) (r : Row) → joined (l ++ (r ∷ [])) ≡ joined l ++ r .cells
+joined-behind [] r = append-nil (r .cells)
+joined-behind (s ∷ l) r = ap (λ (c : List ℤ). s .cells ++ c) (joined-behind l r) ∙ sym (append-assoc (s .cells) (joined l) (r .cells))
+
+headings-length : (l : List Row) (s : ℕ) → length (headingsFrom s l) ≡ 3 * length l
+headings-length [] s = refl
+headings-length (r ∷ l) s = let ih = headings-length l (s + r .period) in omega arith
+
+-- three numbers and what is behind them
+abbrev headed : ℕ → Row → List ℕ → List ℕ
+headed s r n = s ∷ r .period ∷ r .distance ∷ n
+
+headings-behind : (l : List Row) (r : Row) (s : ℕ) → ((r : Row) → List·Memᴰ r l → sound r ≡ true)
+    → headingsFrom s (l ++ (r ∷ [])) ≡ headingsFrom s l ++ headed (s + length (joined l)) r []
+headings-behind [] r s h = let e : s ≡ s + 0 = omega arith in ap (λ (n : ℕ). headed n r []) e
+headings-behind (c ∷ l) r s h =
+    let whole = sound-valid c (h c (List·Memᴰ·head refl)) .whole in
+    let e : s + c .period + length (joined l) ≡ s + length (c .cells ++ joined l) = simp length-append (omega arith) in
+    ap (headed s c) (headings-behind l r (s + c .period) (λ d m. h d (List·Memᴰ·tail m)) ∙ ap (λ (n : ℕ). headingsFrom (s + c .period) l ++ headed n r []) e)
+
+-- ---- the rows l, and r behind them
+
+module _ (l : List Row) (k used e : ℕ) (numbers headings : List ℕ) (before pool : List ℤ) (r : Row) (many : length l ≡ k)
+    (s : Stores l numbers before used) (a : Added k used numbers before r e headings pool) (heading : 3 * k + 3 ≤ length numbers)
+    (is-sound : sound r ≡ true) (fits : r .period ≤ length before - used) where
+  whole : length (r .cells) ≡ r .period
+  whole = sound-valid r is-sound .whole
+
+  -- the headings
+  abbrev old : List ℕ
+  old = headingsFrom 0 l
+
+  abbrev new : List ℕ
+  new = headingsFrom 0 (l ++ (r ∷ []))
+
+  abbrev left : ℕ
+  left = length numbers - length old
+
+  old-length : length old ≡ 3 * k
+  old-length = omega (arith, headings-length l 0)
+
+  old-is : take (3 * k) numbers ≡ old
+  old-is = ap (take (3 * k)) (s .numbers) ∙ take-at old (replicate left 0) (3 * k) old-length
+
+  rest-is : drop (3 * k + 3) numbers ≡ replicate (left - 3) 0
+  rest-is =
+      sym (drop-drop 3 (3 * k) numbers) ∙ ap (drop 3) (ap (drop (3 * k)) (s .numbers) ∙ drop-at old (replicate left 0) (3 * k) old-length) ∙ drop-alike 0 left 3
+
+  written : headings ≡ old ++ headed used r (replicate (left - 3) 0)
+  written = a .heading ∙ ap₂ (λ (o n : List ℕ). o ++ headed used r n) old-is rest-is
+
+  new-is : new ≡ old ++ headed used r []
+  new-is = headings-behind l r 0 (s .all-sound) ∙ ap (λ (n : ℕ). old ++ headed n r []) (omega arith)
+
+  zeros : left - 3 ≡ length headings - length new
+  zeros =
+      let h = ap length written ∙ length-append old (headed used r (replicate (left - 3) 0)) in
+      let n = ap length new-is ∙ length-append old (headed used r []) in
+      omega (arith, length-replicate {A = ℕ} (left - 3) 0)
+
+  numbers-are : headings ≡ filled (length headings) 0 new
+  numbers-are =
+      written ∙ sym (append-assoc old (headed used r []) (replicate (left - 3) 0)) ∙ ap₂ (λ (o : List ℕ) (n : ℕ). o ++ replicate n 0) (sym new-is) zeros
+
+  -- the cells
+  abbrev cells : List ℤ
+  cells = joined (l ++ (r ∷ []))
+
+  abbrev room : ℕ
+  room = length before - used - length (r .cells)
+
+  filled-in : pool ≡ joined l ++ (r .cells ++ replicate room empty)
+  filled-in =
+      a .cells ∙ ap (λ (c : List ℤ). c ++ (r .cells ++ replicate room empty)) (ap (take used) (s .cells) ∙ take-at (joined l) (replicate (length before - length (joined l)) empty) used (sym (s .ends)))
+
+  cells-length : length cells ≡ used + r .period
+  cells-length = ap length (joined-behind l r) ∙ length-append (joined l) (r .cells) ∙ omega (arith, whole, s .ends)
+
+  pool-length : length pool ≡ length before
+  pool-length = ap length filled-in ∙ simp (length-append, length-replicate) (omega (arith, whole, s .ends, s .fits))
+
+  cells-are : pool ≡ filled (length pool) empty cells
+  cells-are =
+      let n : room ≡ length pool - length cells = omega (arith, pool-length, cells-length, whole) in
+      filled-in ∙ sym (append-assoc (joined l) (r .cells) (replicate room empty)) ∙ ap₂ (λ (c : List ℤ) (n : ℕ). c ++ replicate n empty) (sym (joined-behind l r)) n
+
+  stored : Stores (l ++ (r ∷ [])) headings pool e
+  stored = record {
+    numbers = numbers-are;
+    cells = cells-are;
+    ends = a .ends ∙ sym cells-length;
+    fits = omega (arith, a .ends, pool-length, s .fits);
+    all-sound = λ c m. ⊎-elim (s .all-sound c) (λ i. subst (λ (c : Row). sound c ≡ true) (sym (List·Memᴰ·eq-of-singleton i)) is-sound) (List·Memᴰ·append-cases l m);
+  }
+
+-- what became of the entry
+pub entered : (t : List ℤ) (k used : ℕ) (l : List Row) (numbers headings : List ℕ) (before pool : List ℤ) (x : Entry) (c : Code.Entry) → length l ≡ k → Stores l numbers before used
+    → 3 * k + 3 ≤ length numbers → length before ≤ poolLimit → x ≡ entryAt t k → length pool ≡ length before
+    → Became k used numbers before (judged l (length before - used) x) c headings pool → Entered t k l c headings pool
+entered t k used l numbers headings before pool x c many s heading limit is same = by c
+  where
+    judged-same : judged l (length pool - length (joined l)) (entryAt t k) ≡ judged l (length before - used) x
+    judged-same = ap₂ (judged l) (ap₂ _-_ same (sym (s .ends))) (sym is)
+
+    by : (c : Code.Entry) → Became k used numbers before (judged l (length before - used) x) c headings pool → Entered t k l c headings pool
+    by (Refused n) b = judged-same ∙ b
+    by (Ends e) (r, b, a) =
+        let h = entry-sound l (length before - used) x r (s .all-sound) (omega arith) b in
+        (r, judged-same ∙ b, stored l k used e numbers headings before pool r many s a heading (h .0) (h .1))
+
+-- an entry that does not pass checks 4, 5 and 6
+pub refused-named : (l : List Row) (k room n : ℕ) (x y : Entry) → length l ≡ k → y ≡ x → named k y ≡ refused n → judged l room x ≡ refused n
+refused-named l k room n x y many is h =
+    judged-is l room x ∙ ap (λ (a : Reply (Operation ℕ)). andThen a (λ o. converted (atRows l o) room)) (ap₂ named many (sym is) ∙ h)

@@ -1,0 +1,31 @@
+-- A table whose entries are due, and what became of it.
+use mathlib.Core.Path.{_≡_}
+use mathlib.Core.List.{List, []}
+use Prim.Native.Nat.{ℕ, _*_, _≤_}
+use lib.IntN.{ℤ}
+use lib.ListN.{length}
+use Rattle.calendar.specs.Meaning.{empty}
+use Rattle.calendar.specs.Checks.{poolLimit}
+use Rattle.calendar.specs.Table.{Outcome, entryLimit}
+use Rattle.calendar.specs.Stored.{filled, poolAfter, headingsAfter}
+use Rattle.conversion.specs.declared.Conversion.{Conversion}
+use Rattle.conversion.specs.Answers.{answered}
+
+-- a list of h heading numbers and a pool of p cells hold nothing
+pub record Cleared (h p : ℕ) (headings : List ℕ) (pool : List ℤ) : Type 0 where
+  pub numbers : headings ≡ filled h 0 []
+  pub cells : pool ≡ filled p empty []
+
+-- the n entries of a table that passed checks 1, 2 and 3 are due
+pub record TableDue (t : List ℤ) (n : ℕ) (headings : List ℕ) (pool : List ℤ) : Type 0 where
+  pub cleared : Cleared (length headings) (length pool) headings pool
+  pub in-table : 6 * n ≤ length t
+  pub at-most : n ≤ entryLimit
+  pub has-headings : 3 * n ≤ length headings
+  pub in-pool : length pool ≤ poolLimit
+
+-- the answer and both lists, of h heading numbers and p cells, are those of the outcome o
+pub record Ended (h p : ℕ) (o : Outcome) (r : Conversion) (headings : List ℕ) (pool : List ℤ) : Type 0 where
+  pub answer : r ≡ answered o
+  pub numbers : headings ≡ headingsAfter h o
+  pub cells : pool ≡ poolAfter p o

@@ -1,0 +1,117 @@
+// The conversion of a table: each entry's least row into the pool, one behind the other, with a heading of three numbers.
+
+ghost use mathlib.Core.Path.{_≡_};
+ghost use mathlib.Core.List.{List, []};
+ghost use Prim.Native.Nat.{_/_};
+ghost use lib.ListN.{length};
+ghost use Rattle.calendar.specs.Meaning.{Row, empty};
+ghost use Rattle.calendar.specs.Table.{entries, outcome};
+ghost use Rattle.calendar.specs.Stored.{filled, poolAfter, headingsAfter};
+ghost use Rattle.conversion.specs.Answers.{answered};
+ghost use Rattle.conversion.specs.Stores.{Stores, EntryDue, Entered};
+ghost use Rattle.conversion.specs.Tables.{Cleared, TableDue, Ended};
+use calendar::Calendar;
+use entries::Begun;
+use entries::Reading;
+
+mod entering;
+mod naming;
+
+// How many numbers a heading has: start, period and distance.
+pub const HEADING_LENGTH: usize = 3;
+
+// What converting a table comes to: a refusal, by its number and its entry (0 for 1 to 3), or rows and headings stand in the lists.
+pub enum Conversion {
+    Refused(u32, u32),
+    Converted,
+}
+
+// What converting one entry comes to: a refusal, by its number, or its row ends before that cell.
+pub enum Entry {
+    Refused(u32),
+    Ends(usize),
+}
+
+// Converts the entry k behind the rows of the entries before it, which end before the cell `used`.
+pub fn convert_entry(
+    table: &[i32],
+    k: usize,
+    used: usize,
+    headings: &mut [u32],
+    pool: &mut [i32],
+) -> Entry
+    requires { ⌜ EntryDue (now table) k (now headings) (now pool) used ⌝ }
+    ensures lengths { λ r. ⌜ (length (now (headings .exit)) ≡ length (now (headings .entry))) × (length (now (pool .exit)) ≡ length (now (pool .entry))) ⌝ }
+    ensures entered { λ r. ⌜ ((l : List Row) → length l ≡ k → Stores l (now (headings .entry)) (now (pool .entry)) used → Entered (now (table .entry)) k l r (now (headings .exit)) (now (pool .exit))) ⌝ }
+{
+    let e = entries::entry_at(table, k);
+    let reading = entries::read(e, k);
+    match reading {
+        Reading::Refused(n) => Entry::Refused(n),
+        Reading::Named => entering::enter_named(e, k, used, headings, pool),
+    }
+}
+
+// Makes every cell empty.
+fn clear_cells(pool: &mut [i32])
+    ensures { λ r. ⌜ now (pool .exit) ≡ filled (length (now (pool .entry))) empty [] ⌝ }
+{
+    let mut i = 0;
+    while i < pool.len() {
+        pool[i] = Calendar::EMPTY;
+        i += 1;
+    }
+}
+
+// Makes every number of a heading zero.
+fn clear_headings(headings: &mut [u32])
+    ensures { λ r. ⌜ now (headings .exit) ≡ filled (length (now (headings .entry))) 0 [] ⌝ }
+{
+    let mut i = 0;
+    while i < headings.len() {
+        headings[i] = 0;
+        i += 1;
+    }
+}
+
+// Makes both lists hold nothing.
+fn clear(headings: &mut [u32], pool: &mut [i32])
+    ensures { λ r. ⌜ Cleared (length (now (headings .entry))) (length (now (pool .entry))) (now (headings .exit)) (now (pool .exit)) ⌝ }
+{
+    clear_headings(&mut *headings);
+    clear_cells(&mut *pool);
+}
+
+// Converts the n entries of a table, whose lists hold nothing yet.
+fn convert_entries(table: &[i32], n: usize, headings: &mut [u32], pool: &mut [i32]) -> Conversion
+    requires { ⌜ TableDue (now table) n (now headings) (now pool) ⌝ }
+    ensures { λ r. ⌜ Ended (length (now (headings .entry))) (length (now (pool .entry))) (entries (now (table .entry)) n 0 [] (length (now (pool .entry)))) r (now (headings .exit)) (now (pool .exit)) ⌝ }
+{
+    let mut used = 0;
+    for k in 0..n {
+        let entry = convert_entry(table, k, used, &mut *headings, &mut *pool);
+        match entry {
+            Entry::Refused(number) => {
+                clear(&mut *headings, &mut *pool);
+                return Conversion::Refused(number, k as u32);
+            }
+            Entry::Ends(end) => used = end,
+        }
+    }
+    Conversion::Converted
+}
+
+// Converts a table. Answered, the pool holds the least row of each entry and the headings say where; after a refusal every cell is empty and every
+// number of a heading is zero.
+pub fn convert(table: &[i32], headings: &mut [u32], pool: &mut [i32]) -> Conversion
+    ensures answer { λ r. ⌜ r ≡ answered (outcome (now (table .entry)) (length (now (headings .entry)) / 3) (length (now (pool .entry)))) ⌝ }
+    ensures headings { λ r. ⌜ now (headings .exit) ≡ headingsAfter (length (now (headings .entry))) (outcome (now (table .entry)) (length (now (headings .entry)) / 3) (length (now (pool .entry)))) ⌝ }
+    ensures pool { λ r. ⌜ now (pool .exit) ≡ poolAfter (length (now (pool .entry))) (outcome (now (table .entry)) (length (now (headings .entry)) / 3) (length (now (pool .entry)))) ⌝ }
+{
+    clear(&mut *headings, &mut *pool);
+    let begun = entries::begin(table, headings.len() / HEADING_LENGTH, pool.len());
+    match begun {
+        Begun::Refused(number) => Conversion::Refused(number, 0),
+        Begun::Entries(n) => convert_entries(table, n, &mut *headings, &mut *pool),
+    }
+}
