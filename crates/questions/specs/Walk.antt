@@ -1,7 +1,7 @@
 -- The walk over a granule of h for the granules of g that make it up: where it begins, and what it finds.
 use mathlib.Core.Path.{_≡_}
 use mathlib.Core.Logic.{_⊎_}
-use mathlib.Core.Option.{none, some}
+use mathlib.Core.Option.{Option, none, some}
 use mathlib.Core.Bool.{true, false}
 use mathlib.Core.List.{List}
 use Prim.Native.Nat.{ℕ, _<_, _^_}
@@ -9,9 +9,12 @@ use lib.IntN.{ℤ, pos}
 use lib.Signed.{_≤ℤ_}
 use lib.ListN.{length, getD}
 use Rattle.calendar.specs.Meaning.{Row, meant}
-use Rattle.calendar.specs.Granules.{inside, within}
+use Rattle.calendar.specs.Granules.{within}
 use Rattle.calendar.specs.Questions.{madeUp}
+use Rattle.rows.specs.declared.Cursor.{Cursor}
 use Rattle.rows.specs.Found.{Within}
+use Rattle.rows.specs.Cursor.{cursorAt}
+use Rattle.walks.specs.Places.{instant}
 use Rattle.questions.specs.declared.down.Part as Part
 use Rattle.questions.specs.declared.down.Walked as Walked
 
@@ -21,12 +24,37 @@ pub record Begins (h : Row) (z t : ℤ) : Type 0 where
   pub label : meant h t ≡ some z
   pub least : (u : ℤ) → meant h u ≡ some z → t ≤ℤ u
 
--- what an instant t says of the parts of the granule z of h, with `count` of them before it, of which k is the latest
-abbrev pub PartAt : Row → Row → ℤ → ℤ → ℕ → ℤ → Part.Part → Type 0
-PartAt h g z t count k Part.the-variants.Nothing = (meant h t ≡ none) ⊎ ((meant h t ≡ some z) × ((0 < count) × (meant g t ≡ some k)))
-PartAt h g z t count k (Part.the-variants.Next j) = (meant h t ≡ some z) × ((meant g t ≡ some j) × ((inside g j h z ≡ true) × ((count ≡ 0) ⊎ (j ≡ k → ⊥))))
-PartAt h g z t count k Part.the-variants.End = (j : ℤ) × (meant h t ≡ some j) × (j ≡ z → ⊥)
-PartAt h g z t count k Part.the-variants.Broken = (meant h t ≡ some z) × ((j : ℤ) → meant g t ≡ some j → inside g j h z ≡ true → ⊥)
+-- a cursor of the row whose instant has room for a walk of a turn on either side
+abbrev pub Placed : Row → Cursor → Type 0
+Placed r c = Within (2 ^ 59) (instant r c) × (c ≡ cursorAt r (instant r c))
+
+-- k is the greatest label up to u, which is that of the last instant with one
+pub record Greatest (r : Row) (u k : ℤ) : Type 0 where
+  pub at : ℤ
+  pub label : meant r at ≡ some k
+  pub up-to : at ≤ℤ u
+  pub most : (w j : ℤ) → w ≤ℤ u → meant r w ≡ some j → j ≤ℤ k
+
+-- k is the least label from u on, which is that of the first instant with one
+pub record Least (r : Row) (u k : ℤ) : Type 0 where
+  pub at : ℤ
+  pub label : meant r at ≡ some k
+  pub from : u ≤ℤ at
+  pub fewest : (w j : ℤ) → u ≤ℤ w → meant r w ≡ some j → k ≤ℤ j
+
+-- what an instant with the labels x in h and y in g says of the parts of the granule z of h: o is the last label of g outside the granule before it, and
+-- k the latest part, which is o as long as there is none
+abbrev pub PartAt : ℤ → Option ℤ → Option ℤ → ℤ → ℤ → Part.Part → Type 0
+PartAt z x y o k Part.the-variants.Nothing = ((x ≡ none) × (y ≡ none)) ⊎ ((x ≡ some z) × ((y ≡ some k) × (k ≡ o → ⊥)))
+PartAt z x y o k (Part.the-variants.Outside j) = (x ≡ none) × ((y ≡ some j) × (j ≡ k → ⊥))
+PartAt z x y o k (Part.the-variants.Next j) = (x ≡ some z) × ((y ≡ some j) × ((j ≡ o → ⊥) × (j ≡ k → ⊥)))
+PartAt z x y o k Part.the-variants.End = (j : ℤ) × (x ≡ some j) × (j ≡ z → ⊥)
+PartAt z x y o k Part.the-variants.Broken = ((x ≡ some z) × ((y ≡ none) ⊎ (y ≡ some o))) ⊎ ((x ≡ none) × (y ≡ some k))
+
+-- what a walk finds where the granule is over, at u: the parts so far, of which k is the latest, unless that is the least label of g from there on
+abbrev pub EndAt : Row → ℤ → ℕ → ℤ → Walked.Walked → Type 0
+EndAt g u count k (Walked.the-variants.Parts n) = (n ≡ count) × ((j : ℤ) × Least g u j × (j ≡ k → ⊥))
+EndAt g u count k Walked.the-variants.Incomplete = Least g u k
 
 -- the parts of the granule z: how many there are, and those that the list has room for, with zeros behind them
 abbrev pub Walks : Row → Row → ℤ → List ℤ → Walked.Walked → Type 0

@@ -1,20 +1,18 @@
 // Down: the granules of one row that make up a granule of another.
 
 ghost use mathlib.Core.Path.{_≡_};
-ghost use Prim.Native.Nat.{_^_};
 ghost use lib.IntN.{pos};
 ghost use lib.ListN.{length, replicate};
 ghost use Rattle.calendar.specs.Questions.{given};
 ghost use Rattle.calendar.specs.Questions as Q;
-ghost use Rattle.rows.specs.Found.{Sound, Within};
-ghost use Rattle.rows.specs.Cursor.{cursorAt};
+ghost use Rattle.rows.specs.Found.{found, Sound};
+ghost use Rattle.walks.specs.Places.{instant};
 ghost use Rattle.questions.specs.Answers.{partsReply, counted, partsAfter};
-ghost use Rattle.questions.specs.Walk.{PartAt, Begins, Walks};
+ghost use Rattle.questions.specs.Walk.{Begins, Placed, Greatest, PartAt, EndAt, Walks};
 use calendar::Calendar;
 use calendar::Refusal;
 use rows::Cursor;
 use rows::Found;
-use walks::Place;
 
 // How many parts there are.
 pub enum Parted {
@@ -22,9 +20,11 @@ pub enum Parted {
     Refused(Refusal),
 }
 
-// What an instant says of the parts of a granule: none begins there, the next one does, the granule is over, or it is in no part.
+// What an instant says of the parts of a granule: none begins there, it is in a gap of the granule and has this label, the next part begins there,
+// the granule is over, or the parts do not make it up.
 enum Part {
     Nothing,
+    Outside(i64),
     Next(i64),
     End,
     Broken,
@@ -47,64 +47,81 @@ fn clear(parts: &mut [i64])
     }
 }
 
-// What the instant t, with its cursors, says of the parts of h's granule z, which began before it: there are `count` so far, the latest of
-// them `latest`.
-fn part_at(
-    z: i64,
-    t: i64,
-    h: Cursor,
-    g: Cursor,
+// The label of the last instant up to the cursor's that has one: the greatest up to there.
+fn label_up_to(cells: &[i32], period: i64, distance: i64, from: Cursor) -> i64
+    requires { ⌜ Sound period distance (now cells) ⌝ }
+    requires { ⌜ Placed (given period distance (now cells)) from ⌝ }
+    ensures { λ r. ⌜ Greatest (given period distance (now (cells .entry))) (instant (given period distance (now (cells .entry))) from) r ⌝ }
+{
+    let mut c = from;
+    loop {
+        let label = rows::cursor_label(cells, period, distance, c);
+        if let Found::At(j) = label {
+            return j;
+        }
+        c = rows::cursor_back(cells, period, distance, c);
+    }
+}
+
+// What a walk finds where the granule is over, at the cursor's instant: the parts so far, unless the first label from there on is still that of the
+// latest.
+fn ended(
     count: usize,
     latest: i64,
-    h_cells: &[i32],
-    h_period: i64,
-    h_distance: i64,
-    g_cells: &[i32],
-    g_period: i64,
-    g_distance: i64,
-) -> Part
-    requires { ⌜ Sound «h_period» «h_distance» (now «h_cells») ⌝ }
-    requires { ⌜ Sound «g_period» «g_distance» (now «g_cells») ⌝ }
-    requires { ⌜ Within (2 ^ 59) t ⌝ }
-    requires { ⌜ h ≡ cursorAt (given «h_period» «h_distance» (now «h_cells»)) t ⌝ }
-    requires { ⌜ g ≡ cursorAt (given «g_period» «g_distance» (now «g_cells»)) t ⌝ }
-    ensures { λ r. ⌜ PartAt (given «h_period» «h_distance» (now («h_cells» .entry))) (given «g_period» «g_distance» (now («g_cells» .entry))) z t count latest r ⌝ }
+    cells: &[i32],
+    period: i64,
+    distance: i64,
+    from: Cursor,
+) -> Walked
+    requires { ⌜ Sound period distance (now cells) ⌝ }
+    requires { ⌜ Placed (given period distance (now cells)) from ⌝ }
+    ensures { λ r. ⌜ EndAt (given period distance (now (cells .entry))) (instant (given period distance (now (cells .entry))) from) count latest r ⌝ }
 {
-    let own = rows::cursor_label(h_cells, h_period, h_distance, h);
+    let mut c = from;
+    loop {
+        let label = rows::cursor_label(cells, period, distance, c);
+        if let Found::At(k) = label {
+            if k == latest {
+                return Walked::Incomplete;
+            }
+            return Walked::Parts(count);
+        }
+        c = rows::cursor_next(cells, period, distance, c);
+    }
+}
+
+// What an instant says of the parts of h's granule z, by its label in h, `own`, and in g. The latest part is `latest`, and `outside` is the last
+// label of g that an instant before has outside the granule; before the first part they are the same.
+fn part_at(z: i64, own: Found, label: Found, outside: i64, latest: i64) -> Part
+    ensures { λ r. ⌜ PartAt z (found own) (found label) outside latest r ⌝ }
+{
     let Found::At(j) = own else {
-        return Part::Nothing;
+        let Found::At(k) = label else {
+            return Part::Nothing;
+        };
+        if k == latest {
+            return Part::Broken;
+        }
+        return Part::Outside(k);
     };
     if j != z {
         return Part::End;
     }
-    let label = rows::cursor_label(g_cells, g_period, g_distance, g);
     let Found::At(k) = label else {
         return Part::Broken;
     };
-    if k == latest {
-        if count > 0 {
-            return Part::Nothing;
-        }
+    if k == outside {
+        return Part::Broken;
     }
-    let place = Place {
-        b: g,
-        k,
-        a: h,
-        i: z,
-    };
-    let whole = walks::inside_at(
-        g_cells,
-        g_period,
-        g_distance,
-        h_cells,
-        h_period,
-        h_distance,
-        place,
-    );
-    if whole { Part::Next(k) } else { Part::Broken }
+    if k == latest {
+        return Part::Nothing;
+    }
+    Part::Next(k)
 }
 
-// The parts of h's granule z, whose first instant is `first`, into the cleared list, as many as it has room for; all are counted.
+// The parts of h's granule z, whose first instant is `first`, into the cleared list, as many as it has room for; all are counted. One pass over the
+// granule: a part that has an instant outside it, before, in a gap or behind, shows where the walk leaves the granule or comes back, as labels
+// never fall.
 fn parts_of(
     z: i64,
     first: i64,
@@ -122,29 +139,18 @@ fn parts_of(
     requires { ⌜ now parts ≡ replicate (length (now parts)) (pos 0) ⌝ }
     ensures { λ r. ⌜ Walks (given «h_period» «h_distance» (now («h_cells» .entry))) (given «g_period» «g_distance» (now («g_cells» .entry))) z (now (parts .exit)) r ⌝ }
 {
-    let mut at = first - 1;
-    let mut h = rows::cursor_at(h_cells, h_period, h_distance, at);
-    let mut g = rows::cursor_at(g_cells, g_period, g_distance, at);
+    let before = first - 1;
+    let mut h = rows::cursor_at(h_cells, h_period, h_distance, before);
+    let mut g = rows::cursor_at(g_cells, g_period, g_distance, before);
+    let mut outside = label_up_to(g_cells, g_period, g_distance, g);
+    let mut latest = outside;
     let mut count: usize = 0;
-    let mut latest = z;
     loop {
         h = rows::cursor_next(h_cells, h_period, h_distance, h);
         g = rows::cursor_next(g_cells, g_period, g_distance, g);
-        at += 1;
-        let part = part_at(
-            z,
-            at,
-            h,
-            g,
-            count,
-            latest,
-            h_cells,
-            h_period,
-            h_distance,
-            g_cells,
-            g_period,
-            g_distance,
-        );
+        let own = rows::cursor_label(h_cells, h_period, h_distance, h);
+        let label = rows::cursor_label(g_cells, g_period, g_distance, g);
+        let part = part_at(z, own, label, outside, latest);
         match part {
             Part::Next(k) => {
                 let i = count;
@@ -155,14 +161,15 @@ fn parts_of(
                 }
             }
             Part::Nothing => {}
-            Part::End => return Walked::Parts(count),
+            Part::Outside(k) => outside = k,
+            Part::End => return ended(count, latest, g_cells, g_period, g_distance, g),
             Part::Broken => return Walked::Incomplete,
         }
     }
 }
 
 // The labels of g's granules that make up the granule z of h, rising, in `parts`; the rest of it is zero, and all of it after a refusal. Costs a
-// pass over each row, for check 13 and to find the granule, a walk over the granule and one over each of the parts.
+// pass over each row, for check 13 and to find the granule, and a walk over the granule and the gaps of g beside it.
 pub fn down(
     z: i64,
     parts: &mut [i64],

@@ -1,0 +1,98 @@
+-- The walk over a granule of h for the granules of g that make it up: how it ends.
+-- Assumes nothing.
+use mathlib.Core.Path.{_≡_, sym, _∙_, ap, subst}
+use mathlib.Core.Logic.{inl, inr, ⊎-elim}
+use mathlib.Core.Option.{some}
+use mathlib.Core.Bool.{true, false}
+use mathlib.Core.List.{List, List·Memᴰ}
+use Prim.Native.Nat.{ℕ}
+use native.Mathlib.Omega.{arith}
+use lib.IntN.{ℤ, pos, _+ℤ_}
+use lib.Signed.{_≤ℤ_, _<ℤ_}
+use lib.ListN.{length}
+use Rattle.integers.proofs.Linear.{ints, _∴_}
+use Rattle.integers.proofs.Order.{≤ℤ-antisym, le-or-lt}
+use Rattle.calendar.specs.Meaning.{Row, meant, Inside}
+use Rattle.calendar.specs.Granules.{within}
+use Rattle.calendar.specs.Questions.{madeUp}
+use Rattle.granules.specs.Valid.{Valid}
+use Rattle.granules.proofs.Tests.{some-inj, none≢some, false-iff}
+use Rattle.granules.proofs.Lists.{lists-unique}
+use Rattle.granules.proofs.Inside.{within-lists}
+use Rattle.granules.proofs.Questions.{madeUp-iff}
+use Rattle.rows.specs.declared.Cursor.{Cursor}
+use Rattle.rows.specs.Cursor.{cursorAt}
+use Rattle.questions.specs.declared.down.Part.the-variants.{Broken}
+use Rattle.questions.specs.declared.down.Walked.{Walked}
+use Rattle.questions.specs.declared.down.Walked.the-variants.{Parts, Incomplete}
+use Rattle.questions.specs.Walk.{Begins, Least, PartAt, EndAt, Walks}
+use Rattle.questions.proofs.Cleared.{Shows}
+use Rattle.questions.proofs.Walk.{Walk, has-part}
+
+module _ {h g : Row} (v : Valid h) (w : Valid g) {z t : ℤ} (b : Begins h z t) where
+  -- an instant of the granule and one outside it have the same label in g
+  apart : (x y k : ℤ) → meant h x ≡ some z → meant g x ≡ some k → (meant h y ≡ some z → ⊥) → meant g y ≡ some k → madeUp h g z ≡ false
+  apart x y k e f out l = false-iff (madeUp-iff h g v w z) .1 (λ m. let s = m x e in out (s .2 y (l ∙ ap some (some-inj (sym f ∙ s .1)))))
+
+  module _ {n : ℕ} {p : List ℤ} {u u′ : ℤ} {a d a′ d′ : Cursor} {count : ℕ} {o latest : ℤ} (c : Walk h g z t n p u a d count o latest)
+      (next : a′ ≡ cursorAt h u′) (beside : d′ ≡ cursorAt g u′) (step : u′ ≡ u +ℤ pos 1) where
+    -- an instant of the latest part, where u′ is not in the granule
+    part-seen : (meant h u′ ≡ some z → ⊥) → (x : ℤ) × (meant h x ≡ some z) × (x ≤ℤ u) × (meant g x ≡ some latest)
+    part-seen f = c .lists .member latest .1 (has-part v w b c next beside step f .0)
+
+    -- u′ is in the granule and has no label in g, or that of an instant outside; or it is in a gap and in the latest part
+    pub walk-broken : PartAt z (meant h u′) (meant g u′) o latest Broken → madeUp h g z ≡ false
+    walk-broken (inl (e, inl f)) = false-iff (madeUp-iff h g v w z) .1 (λ m. none≢some (sym f ∙ m u′ e .1))
+    walk-broken (inl (e, inr f)) = apart u′ (c .outer .at) o e f (c .outer .out) (c .outer .label)
+    walk-broken (inr (e, f)) =
+        let out : meant h u′ ≡ some z → ⊥ = λ y. none≢some (sym e ∙ y) in
+        let s = part-seen out in
+        apart (s .0) u′ latest (s .1) (s .3) out f
+
+    -- another label of h shows: all instants of the granule are seen
+    module _ (j : ℤ) (e : meant h u′ ≡ some j) (other : j ≡ z → ⊥) where
+      all-seen : (x : ℤ) → meant h x ≡ some z → x ≤ℤ u
+      all-seen x p = ⊎-elim (λ (q : x ≤ℤ u). q) (λ (q : u <ℤ x). absurd (other (≤ℤ-antisym (v .ordered u′ x j z (q ∴ step ∴ simp ints (omega arith)) e p) (v .ordered t u′ z j (c .low ∴ step ∴ simp ints (omega arith)) (b .label) e)))) (le-or-lt x u)
+
+      is-part : (x : ℤ) × (meant h x ≡ some z) × (x ≤ℤ u) × (meant g x ≡ some latest)
+      is-part = part-seen (λ y. other (some-inj (sym e ∙ y)))
+
+      -- the latest part goes on
+      goes-on : Least g u′ latest → madeUp h g z ≡ false
+      goes-on l =
+          let s = is-part in
+          apart (s .0) (l .at) latest (s .1) (s .3) (λ y. all-seen (l .at) y ∴ l .from ∴ step ∴ simp ints (omega arith)) (l .label)
+
+      -- the latest part does not
+      module _ (i : ℤ) (l : Least g u′ i) (past : i ≡ latest → ⊥) where
+        inner : (k : ℤ) → List·Memᴰ k (c .seen) → Inside (meant g) k (meant h) z
+        inner k m x y = ⊎-elim (λ (q : x ≤ℤ u). c .closed k m x q y) (λ (q : u <ℤ x). absurd (past (≤ℤ-antisym (few q) many))) (le-or-lt x u)
+          where
+            few : u <ℤ x → i ≤ℤ latest
+            few q =
+                l .fewest x k (q ∴ step ∴ simp ints (omega arith)) y
+                ∴ has-part v w b c next beside step (λ y. other (some-inj (sym e ∙ y))) .1 k m
+                ∴ simp ints (omega arith)
+
+            many : latest ≤ℤ i
+            many = let s = is-part in w .ordered (s .0) (l .at) latest i (s .2 ∴ l .from ∴ step ∴ simp ints (omega arith)) (s .3) (l .label)
+
+        made : madeUp h g z ≡ true
+        made = madeUp-iff h g v w z .1 (λ x p.
+            let s = c .covered x p (all-seen x p) in
+            (s .0, s .1, inner (s .0) (c .lists .member (s .0) .0 (x, p, all-seen x p, s .1))))
+
+        parts : c .seen ≡ within g h z
+        parts = lists-unique (c .seen) (within g h z)
+            (record {
+              rising = c .lists .rising;
+              member = λ k. (
+                λ s. c .lists .member k .0 (s .0 .0, s .1 (s .0 .0) (s .0 .1), all-seen (s .0 .0) (s .1 (s .0 .0) (s .0 .1)), s .0 .1),
+                λ m. let s = c .lists .member k .1 m in ((s .0, s .3), inner k m),
+              );
+            })
+            (within-lists g h w v z)
+
+      pub walk-ended : (x : Walked) → EndAt g u′ count latest x → Walks h g z p x
+      walk-ended (Parts m) (q, (i, l, past)) = (made i l past, (q ∙ c .count-is ∙ ap length (parts i l past), subst (λ (k : List ℤ). Shows p k) (parts i l past) (c .shows)))
+      walk-ended Incomplete l = goes-on l
