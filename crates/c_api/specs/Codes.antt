@@ -2,12 +2,14 @@
 use mathlib.Core.Path.{_≡_}
 use mathlib.Core.Bool.{Bool, true, false}
 use mathlib.Core.Option.{Option, none, some}
-use Prim.Native.Nat.{ℕ, zero, suc}
+use Prim.Native.Nat.{ℕ, zero, suc, _+_, _*_}
 use lib.IntN.{ℤ, pos, negsuc, negℤ}
 use lib.Ieee.{Float, fin}
 use Rattle.calendar.specs.Meaning.{Row}
 use Rattle.calendar.specs.Reply.{Reply}
 use Rattle.calendar.specs.Reply.Reply.{refused, answer}
+use Rattle.calendar.specs.Table.{Outcome}
+use Rattle.calendar.specs.Table.Outcome.{refusedAt, rows}
 use Rattle.calendar.specs.Granules.{granules}
 use Rattle.calendar.specs.Questions.{labelledInstants}
 use Rattle.floats.specs.Figures.{Shown}
@@ -15,6 +17,8 @@ use Rattle.floats.specs.declared.Figures.{Figures}
 use Rattle.floats.specs.declared.Allowance.{Allowance}
 use Rattle.floats.specs.declared.Allowance.the-variants.{Fixed, Share}
 use Rattle.calendar.specs.Checks.{sound}
+use Rattle.conversion.specs.declared.Conversion.{Conversion}
+use Rattle.conversion.specs.declared.Conversion.the-variants.{Refused, Converted}
 
 abbrev pub refusalCode : ℕ → ℤ
 refusalCode n = negℤ (pos n)
@@ -64,3 +68,13 @@ allowanceOf (pos zero) v = Fixed v
 allowanceOf (pos (suc zero)) v = Share v
 allowanceOf (pos (suc (suc n))) v = Fixed (fin true 1 (pos 0))
 allowanceOf (negsuc n) v = Fixed (fin true 1 (pos 0))
+
+-- ---- conversion: 0, or 100 times the refusal's number plus the entry
+abbrev pub conversionCode : Outcome → ℤ
+conversionCode (refusedAt n k) = pos (100 * n + k)
+conversionCode (rows l) = pos 0
+
+-- the same of the answer of the code
+abbrev pub codeOf : Conversion → ℤ
+codeOf (Refused n k) = pos (100 * n + k)
+codeOf Converted = pos 0

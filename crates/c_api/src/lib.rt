@@ -1,14 +1,19 @@
-// Questions to a row, for C. Each answers with one number, which is below zero for a refusal: the refusal's number with the sign changed. What else
-// there is to say is left behind pointers, which hold zeros after a refusal. The header include/jogipahn.h declares the functions.
+// The conversion of a table and questions to a row, for C. Each function answers with one number; what else there is to say is left in the
+// lists and behind the pointers that are handed in. A question's refusal is its number below zero. The header include/jogipahn.h declares
+// the functions.
 
 ghost use mathlib.Core.Path.{_≡_};
+ghost use Prim.Native.Nat.{_/_};
 ghost use lib.ListN.{length};
 ghost use Rattle.calendar.specs.Refusals.{numberOf};
+ghost use Rattle.calendar.specs.Table.{outcome};
+ghost use Rattle.calendar.specs.Stored.{poolAfter, headingsAfter};
 ghost use Rattle.calendar.specs.Questions.{given};
 ghost use Rattle.calendar.specs.Questions as Q;
 ghost use Rattle.questions.specs.Answers.{upReply, counted, partsAfter, mayBeLate};
-ghost use Rattle.c_api.specs.Codes.{refusalCode, upCode, upLabel, downCode, FiguresLeft, lateCode, allowanceOf};
+ghost use Rattle.c_api.specs.Codes.{refusalCode, upCode, upLabel, downCode, FiguresLeft, lateCode, allowanceOf, conversionCode, codeOf};
 use calendar::Refusal;
+use conversion::Conversion;
 use floats::Allowance;
 use questions::Figured;
 use questions::Late;
@@ -176,4 +181,25 @@ pub extern "C" fn jogipahn_may_be_late(
         Late::TooLate => 0,
         Late::Refused(x) => refusal_code(x),
     }
+}
+
+// What converting came to as a number.
+fn conversion_code(c: Conversion) -> i64
+    ensures { λ r. ⌜ r ≡ codeOf c ⌝ }
+{
+    match c {
+        Conversion::Refused(number, entry) => 100 * (number as i64) + entry as i64,
+        Conversion::Converted => 0,
+    }
+}
+
+// Converts a table, with three numbers a heading: 0, or 100 times the refusal's number plus its entry.
+#[no_mangle]
+pub extern "C" fn jogipahn_convert(table: &[i32], headings: &mut [u32], pool: &mut [i32]) -> i64
+    ensures code { λ r. ⌜ r ≡ conversionCode (outcome (now (table .entry)) (length (now (headings .entry)) / 3) (length (now (pool .entry)))) ⌝ }
+    ensures headings { λ r. ⌜ now (headings .exit) ≡ headingsAfter (length (now (headings .entry))) (outcome (now (table .entry)) (length (now (headings .entry)) / 3) (length (now (pool .entry)))) ⌝ }
+    ensures pool { λ r. ⌜ now (pool .exit) ≡ poolAfter (length (now (pool .entry))) (outcome (now (table .entry)) (length (now (headings .entry)) / 3) (length (now (pool .entry)))) ⌝ }
+{
+    let converted = conversion::convert(table, &mut *headings, &mut *pool);
+    conversion_code(converted)
 }
