@@ -1,0 +1,2 @@
+-- The headings that a conversion leaves, as records.
+pub mod Records

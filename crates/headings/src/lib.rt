@@ -1,0 +1,85 @@
+// The conversion of a table with a record for each heading.
+
+ghost use mathlib.Core.Path.{_≡_};
+ghost use lib.ListN.{length};
+ghost use Rattle.calendar.specs.Table.{outcome};
+ghost use Rattle.calendar.specs.Stored.{poolAfter, headingsAfter};
+ghost use Rattle.conversion.specs.Answers.{answered};
+ghost use Rattle.headings.specs.Records.{recordAt, recordsOf, recordsAfter};
+use conversion::Conversion;
+use conversion::HEADING_LENGTH;
+
+// How many entries a table has at most.
+const ENTRY_LIMIT: usize = 32;
+
+// The heading of an entry: where its row starts in the pool, and its period and distance.
+pub struct Heading {
+    pub start: u32,
+    pub period: u32,
+    pub distance: u32,
+}
+
+// A conversion by value: its answer, and three numbers for each of 32 entries.
+struct Made {
+    answer: Conversion,
+    plain: [u32; 96],
+}
+
+// Converts a table for which so many headings are lent.
+fn convert_made(table: &[i32], lent: usize, pool: &mut [i32]) -> Made
+    ensures { λ r. ⌜ (r .answer ≡ answered (outcome (now (table .entry)) lent (length (now (pool .entry)))))
+        × (r .plain ≡ headingsAfter 96 (outcome (now (table .entry)) lent (length (now (pool .entry)))))
+        × (now (pool .exit) ≡ poolAfter (length (now (pool .entry))) (outcome (now (table .entry)) lent (length (now (pool .entry))))) ⌝ }
+{
+    let mut plain = [0; 96];
+    let entries = if lent < ENTRY_LIMIT {
+        lent
+    } else {
+        ENTRY_LIMIT
+    };
+    let answer = conversion::convert(table, &mut plain[..HEADING_LENGTH * entries], pool);
+    Made { answer, plain }
+}
+
+// The i-th heading; those past the numbers are zero.
+fn heading_at(m: Made, i: usize) -> Heading
+    ensures { λ r. ⌜ r ≡ recordAt (m .plain) i ⌝ }
+{
+    if i < ENTRY_LIMIT {
+        let at = HEADING_LENGTH * i;
+        Heading {
+            start: m.plain[at],
+            period: m.plain[at + 1],
+            distance: m.plain[at + 2],
+        }
+    } else {
+        Heading {
+            start: 0,
+            period: 0,
+            distance: 0,
+        }
+    }
+}
+
+// Writes every heading.
+fn write_all(headings: &mut [Heading], m: Made)
+    ensures { λ _. ⌜ now (headings .exit) ≡ recordsOf (m .plain) (length (now (headings .entry))) ⌝ }
+{
+    let mut i: usize = 0;
+    while i < headings.len() {
+        headings[i] = heading_at(m, i);
+        i += 1;
+    }
+}
+
+// Converts a table. Answered, the pool holds the least row of each entry and the headings say where; after a refusal every cell is empty and every
+// heading is zero.
+pub fn convert(table: &[i32], headings: &mut [Heading], pool: &mut [i32]) -> Conversion
+    ensures { λ r. ⌜ (r ≡ answered (outcome (now (table .entry)) (length (now (headings .entry))) (length (now (pool .entry)))))
+        × (now (headings .exit) ≡ recordsAfter (length (now (headings .entry))) (outcome (now (table .entry)) (length (now (headings .entry))) (length (now (pool .entry)))))
+        × (now (pool .exit) ≡ poolAfter (length (now (pool .entry))) (outcome (now (table .entry)) (length (now (headings .entry))) (length (now (pool .entry))))) ⌝ }
+{
+    let m = convert_made(table, headings.len(), pool);
+    write_all(headings, m);
+    m.answer
+}

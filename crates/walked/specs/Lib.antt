@@ -1,0 +1,2 @@
+-- What the contracts of walked functions share.
+pub mod Tabled
