@@ -6,6 +6,8 @@
 //! - [`random`], [`tables`] and [`rows`] make random numbers, tables, and rows with
 //!   questions to them, all from a seed.
 //! - [`timing`] measures both sides.
+//! - [`vectors`] chooses the stored tables of the program `vectors` and says what
+//!   it has to print; `cargo run --release --bin vectors` writes both.
 //!
 //! `cargo test --release` runs everything that needs no core. With the core's
 //! archive in `../target/staticlib/libc_api.a`:
@@ -23,3 +25,4 @@ pub mod rows;
 pub mod second;
 pub mod tables;
 pub mod timing;
+pub mod vectors;

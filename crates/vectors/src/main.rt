@@ -1,0 +1,117 @@
+// Converts stored tables and prints what comes of each: its refusal, or a line for each row with period, distance and cells, "." for no label. The
+// tables and what is to be printed are written by the second implementation (rust/src/vectors.rs).
+
+use calendar::Calendar;
+use conversion::Conversion;
+use conversion::HEADING_LENGTH;
+
+mod tables;
+
+fn print(text: &[u8]) {
+    io::write_all(1, text);
+}
+
+// |v|. Of a negative v, -1 - v fits where -v may not.
+fn magnitude(v: i32) -> u64 {
+    if v < 0 { (-1 - v) as u64 + 1 } else { v as u64 }
+}
+
+fn print_cell(cell: i32) {
+    if cell == Calendar::EMPTY {
+        print(b".");
+        return;
+    }
+    if cell < 0 {
+        print(b"-");
+    }
+    io::print_decimal(1, magnitude(cell));
+}
+
+// The first n cells.
+fn print_cells(cells: &[i32], n: usize) {
+    let mut i = 0;
+    while i < n {
+        if i < cells.len() {
+            print(b" ");
+            print_cell(cells[i]);
+        }
+        i += 1;
+    }
+    print(b"\n");
+}
+
+// The row of a heading.
+fn print_row(start: u32, period: u32, distance: u32, pool: &[i32]) {
+    io::print_decimal(1, period as u64);
+    print(b" ");
+    io::print_decimal(1, distance as u64);
+    let from = start as usize;
+    if from <= pool.len() {
+        print_cells(&pool[from..], period as usize);
+    }
+}
+
+// The rows of these headings.
+fn print_rows(headings: &[u32], pool: &[i32]) {
+    let mut at = 0;
+    while HEADING_LENGTH <= headings.len() - at {
+        print_row(headings[at], headings[at + 1], headings[at + 2], pool);
+        at += HEADING_LENGTH;
+    }
+}
+
+fn print_refusal(number: u32, entry: u32) {
+    print(b"refused ");
+    io::print_decimal(1, number as u64);
+    print(b" at ");
+    io::print_decimal(1, entry as u64);
+    print(b"\n");
+}
+
+// Converts a table and prints what comes of it. A heading has half as many numbers as an entry.
+fn print_table(table: &[i32], headings: &mut [u32], pool: &mut [i32]) {
+    let converted = conversion::convert(table, &mut *headings, &mut *pool);
+    let n = table.len() / 2;
+    match converted {
+        Conversion::Refused(number, entry) => print_refusal(number, entry),
+        Conversion::Converted => {
+            if n <= headings.len() {
+                print_rows(&headings[..n], &pool[..]);
+            }
+        }
+    }
+}
+
+// The table number i, with lists of these lengths that are not clean before.
+fn print_case(i: usize, table: &[i32], headings: usize, cells: usize) {
+    let mut numbers = [1u32; tables::HEADINGS];
+    let mut pool = [1i32; tables::CELLS];
+    print(b"table ");
+    io::print_decimal(1, i as u64);
+    print(b"\n");
+    if headings <= tables::HEADINGS && cells <= tables::CELLS {
+        print_table(table, &mut numbers[..headings], &mut pool[..cells]);
+    }
+}
+
+// All tables, which stand one behind the other, by their sizes: of each its length and those of its headings and its pool.
+fn print_cases(numbers: &[i32], sizes: &[usize]) {
+    let mut start = 0;
+    let mut at = 0;
+    while 3 <= sizes.len() - at {
+        let length = sizes[at];
+        if numbers.len() - start < length {
+            return;
+        }
+        let end = start + length;
+        print_case(at / 3, &numbers[start..end], sizes[at + 1], sizes[at + 2]);
+        start = end;
+        at += 3;
+    }
+}
+
+fn main() {
+    let numbers = tables::NUMBERS;
+    let sizes = tables::SIZES;
+    print_cases(&numbers, &sizes);
+}
