@@ -52,13 +52,17 @@ part-front : (n s : ℕ) (xs ys : List ℤ) → s + n ≤ length xs → take n (
 part-front n s xs ys h = ap (take n) (drop-append-le s xs ys (omega arith)) ∙ take-append-le n (drop s xs) ys (simp length-drop (omega arith))
 
 -- the cells from `at` on do not matter to a row before them
+pub part-kept : (old more : List ℤ) (at s e : ℕ) → at ≤ length old → s ≤ e → e ≤ at → take (e - s) (drop s (take at old ++ more)) ≡ take (e - s) (drop s old)
+part-kept old more at s e h f g =
+    let front : s + (e - s) ≤ length (take at old) = omega (arith, length-take-le at old h) in
+    part-front (e - s) s (take at old) more front
+    ∙ sym (part-front (e - s) s (take at old) (drop at old) front)
+    ∙ ap (λ (l : List ℤ). take (e - s) (drop s l)) (take-append-drop at old)
+
 pub row-kept : (old more : List ℤ) (at : ℕ) (a : Operand) → at ≤ length old → end a ≤ at → rowIn (take at old ++ more) a ≡ rowIn old a
 row-kept old more at a h e =
-    let front : end a ≤ length (take at old) = omega (arith, length-take-le at old h) in
-    ap (given (a .period) (a .distance))
-    (part-front (up (a .period)) (a .start) (take at old) more front
-    ∙ sym (part-front (up (a .period)) (a .start) (take at old) (drop at old) front)
-    ∙ ap (λ (l : List ℤ). take (up (a .period)) (drop (a .start) l)) (take-append-drop at old))
+    let n : end a - a .start ≡ up (a .period) = omega arith in
+    ap (given (a .period) (a .distance)) (rw n at (part-kept old more at (a .start) (end a) h (omega arith) e))
 
 -- what a step is given, by the cells before it and its instant
 abbrev pub Stepping : Kind → State → Row → Row → ℤ → List ℤ → Type 0

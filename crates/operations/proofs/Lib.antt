@@ -15,6 +15,7 @@
 --     Repeated     after how many granules alter repeats
 --     Cells        the cells of a pool
 --     Working      the working row as it is filled in
+--     Turns        the turns of a loop that fills it in
 pub mod Points
 pub mod Scans
 pub mod Groups
@@ -31,3 +32,4 @@ pub mod Selected
 pub mod Repeated
 pub mod Cells
 pub mod Working
+pub mod Turns

@@ -110,7 +110,7 @@ module _ (o : Operation Row) (at : ℕ) (old : List ℤ) (room : at + size o .pe
         let m : t ≤ length (working o .cells) = omega (arith, w .at-most, working-length o) in
         ap length (w .is-new) ∙ length-paste old at (working o .cells) t l m
 
-    new-is : new ≡ take at old ++ (take t (working o .cells) ++ drop (at + t) old)
+    pub new-is : new ≡ take at old ++ (take t (working o .cells) ++ drop (at + t) old)
     new-is = w .is-new ∙ append-assoc (take at old) (take t (working o .cells)) (drop (at + t) old)
 
     -- the cells of the instants before t

@@ -1,4 +1,4 @@
-// One loop fills the working row of any kind, behind the rows that stand in the pool already.
+// The working row of any kind is filled in behind the rows that stand in the pool already.
 
 ghost use mathlib.Core.Path.{_≡_};
 ghost use mathlib.Core.Bool.{true};
@@ -29,7 +29,7 @@ pub enum Filled {
 }
 
 // The cell behind the last one of an operand that stands before the cell `at`.
-fn end_of(a: Operand, at: usize) -> usize
+pub fn end_of(a: Operand, at: usize) -> usize
     requires { ⌜ pos 0 ≤ℤ a .period ⌝ }
     requires { ⌜ end a ≤ at ⌝ }
     ensures { λ r. ⌜ r ≡ end a ⌝ }
@@ -38,7 +38,7 @@ fn end_of(a: Operand, at: usize) -> usize
 }
 
 // The state before the instant 0 of an operation over two rows of the pool.
-fn start_in(
+pub fn start_in(
     kind: Kind,
     span: i64,
     at: usize,
@@ -105,8 +105,8 @@ fn step_in(
     )
 }
 
-// Fills the cells from `at` on with the working row, as many as its period; stops at a label outside the limits.
-pub fn fill(
+// The same with the step of any kind, for the kinds that have no loop of their own.
+fn fill_any(
     kind: Kind,
     span: i64,
     at: usize,
@@ -146,5 +146,34 @@ pub fn fill(
         Filled::Labelled
     } else {
         Filled::Unlabelled
+    }
+}
+
+// Fills the cells from `at` on with the working row, as many as its period; stops at a label outside the limits.
+pub fn fill(
+    kind: Kind,
+    span: i64,
+    at: usize,
+    period: usize,
+    pool: &mut [i32],
+    a: Operand,
+    b: Operand,
+) -> Filled
+    requires { ⌜ Given kind (rowIn (now pool) a) (rowIn (now pool) b) ⌝ }
+    requires { ⌜ Placed kind a b span at period (now pool) ⌝ }
+    ensures answer { λ r. ⌜ r ≡ filledAs (operationOf kind (rowIn (now (pool .entry)) a) (rowIn (now (pool .entry)) b)) ⌝ }
+    ensures length { λ r. ⌜ length (now (pool .exit)) ≡ length (now (pool .entry)) ⌝ }
+    ensures cells { λ r. ⌜ (labelsInRange (operationOf kind (rowIn (now (pool .entry)) a) (rowIn (now (pool .entry)) b)) ≡ true → now (pool .exit) ≡ take at (now (pool .entry)) ++ (working (operationOf kind (rowIn (now (pool .entry)) a) (rowIn (now (pool .entry)) b)) .cells ++ drop (at + period) (now (pool .entry)))) ⌝ }
+{
+    match kind {
+        Kind::Group(x) => super::loops::fill_group(x, span, at, period, pool, a, b),
+        Kind::Shift(x) => super::loops::fill_shift(x, span, at, period, pool, a, b),
+        Kind::Renumber(x) => super::loops::fill_renumber(x, span, at, period, pool, a, b),
+        Kind::Alter(by) => super::pairs::fill_alter(by, span, at, period, pool, a, b),
+        Kind::Combine => super::pairs::fill_combine(span, at, period, pool, a, b),
+        Kind::Anchor => super::pairs::fill_anchor(span, at, period, pool, a, b),
+        Kind::Select(by) => super::pairs::fill_select(by, span, at, period, pool, a, b),
+        Kind::ByLabels(by) => super::pairs::fill_by_labels(by, span, at, period, pool, a, b),
+        _ => fill_any(kind, span, at, period, pool, a, b),
     }
 }

@@ -31,7 +31,9 @@ mod altering;
 mod anchoring;
 mod combining;
 pub mod filling;
+mod loops;
 mod numbering;
+mod pairs;
 mod pointwise;
 mod selecting;
 

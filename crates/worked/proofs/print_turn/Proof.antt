@@ -1,16 +1,15 @@
--- `worked::print_turn` meets its contract: i stays within the row, and what is left of the row falls with each turn of the loop.
+-- `worked::print_turn` meets its contract: i stays within n, and what is left of n falls with each turn of the loop.
 -- Assumes nothing.
 use Prim.Native.Nat.{_≤_, _-_}
-use lib.ListN.{length}
 use borrow.Author.Needs.{needs}
 use Rattle.worked.proofs.print_turn.Statement.{statement}
 use Rattle.worked.proofs.print_turn.Tie as tie
 
 abbrev Inv-loop : tie.InvT-loop
-Inv-loop cells rise i₀ t4 i = i ≤ length cells
+Inv-loop cells n down up i₀ t6 i = i ≤ n
 
 abbrev μ-loop : tie.MeasureT-loop
-μ-loop cells rise i₀ t4 i = length cells - i
+μ-loop cells n down up i₀ t6 i = n - i
 
 loop-holds : tie.Need-loop-holds Inv-loop μ-loop
 loop-holds c = search needs

@@ -1,252 +1,191 @@
--- `operations::filling::fill` meets its contract. The loop's invariant: the cells of the instants before t are written, and the state is the one before t.
+-- `operations::filling::fill` meets its contract: each kind has a loop that does.
 -- Assumes nothing.
 use borrow.Author.Needs.{needs, sfits-of}
-use borrow.Author.Tests.{not-true, not-false}
-use mathlib.Core.Path.{_≡_, refl, sym, _∙_, ap}
-use mathlib.Core.Logic.{⊎-elim}
-use mathlib.Core.Option.{Option, none, some}
-use mathlib.Core.Bool.{Bool, true, false, _||_}
-use mathlib.Core.List.{List, _++_}
-use Prim.Native.Nat.{ℕ, _+_, _-_, _≤_, _<_}
-use native.Mathlib.Omega.{arith}
-use lib.IntN.{ℤ, pos}
-use lib.ListN.{length, set, take, drop}
+use mathlib.Core.Path.{_≡_, sym, _∙_, ap, subst}
+use mathlib.Core.List.{List}
+use lib.IntN.{ℤ}
 use mir.Facts.{toZ-ofZ}
 use mir.Syntax.{w64}
 use mir.Val.{toZ, ofZ}
-use Rattle.calendar.specs.Meaning.{Row}
-use Rattle.calendar.specs.Operation.{Operation}
-use Rattle.calendar.specs.Lists.{isSome, ifLabel}
-use Rattle.calendar.specs.Size.{size}
-use Rattle.calendar.specs.Compute.{result, working, cellOf}
-use Rattle.calendar.specs.Checks.{inRange}
-use Rattle.granules.proofs.Tests.{true≢false}
-use Rattle.rows.specs.Found.{found}
+use Rattle.operands.specs.declared.Kind.{Kind}
+use Rattle.operands.specs.declared.Kind.the-variants.{Group, Shift, Renumber}
 use Rattle.operands.specs.Operations.{operationOf}
 use Rattle.operands.specs.Stands.{rowIn}
-use Rattle.operations.specs.Scanning.{Given, Scanning}
+use Rattle.operations.specs.declared.filling.Filled.{Filled}
+use Rattle.operations.specs.Scanning.{Given}
 use Rattle.operations.specs.Filling.{Placed}
-use Rattle.operations.proofs.Cells.{same-rows}
-use Rattle.operations.proofs.Working.{Writes, writes-none, writes-length, writes-more, writes-all, writes-labelled, writes-unlabelled, out-of-range, filled-out, range-fits, room-is, a-kept, b-kept, placed-kept, reached}
+use Rattle.operations.proofs.Turns.{Fills}
 use Rattle.operations.proofs.filling.fill.Statement.{statement}
 use Rattle.operations.proofs.filling.fill.Tie as tie
 
-abbrev Inv-loop : tie.InvT-loop
-Inv-loop kind span at period pool₀ a b s₀ labelled₀ t₀ pool s labelled t =
-    Writes (operationOf kind (rowIn pool₀ a) (rowIn pool₀ b)) at pool₀ pool labelled t × Scanning kind (rowIn pool₀ a) (rowIn pool₀ b) (pos t) s
+-- what the loop of the kind that the match found is given, and what it ensures
+module _ (s : tie.Start) (k : Kind) (e : s .args .kind ≡ k) where
+  asked : Given k (rowIn (s .args .pool .now) (s .args .a)) (rowIn (s .args .pool .now) (s .args .b)) × Placed k (s .args .a) (s .args .b) (toZ w64 (ofZ w64 (s .args .span))) (s .args .at) (s .args .period) (s .args .pool .now)
+  asked =
+      let p = s .args .pool .now in
+      rw (toZ-ofZ (s .fits .span)) (subst (λ (m : Kind). Given m (rowIn p (s .args .a)) (rowIn p (s .args .b)) × Placed m (s .args .a) (s .args .b) (s .args .span) (s .args .at) (s .args .period) p) e (s .pre))
 
-abbrev μ-loop : tie.MeasureT-loop
-μ-loop kind span at period pool₀ a b s₀ labelled₀ t₀ pool s labelled t = period - t
+  filled : (new : List ℤ) (r : Filled) → let p = s .args .pool .now in
+      Fills (operationOf k (rowIn p (s .args .a)) (rowIn p (s .args .b))) (s .args .at) (s .args .period) p new r
+      → Fills (operationOf (s .args .kind) (rowIn p (s .args .a)) (rowIn p (s .args .b))) (s .args .at) (s .args .period) p new r
+  filled new r h =
+      let p = s .args .pool .now in
+      subst (λ (m : Kind). Fills (operationOf m (rowIn p (s .args .a)) (rowIn p (s .args .b))) (s .args .at) (s .args .period) p new r) (sym e) h
 
-abbrev Start : Type 0
-Start = tie.Start Inv-loop μ-loop
+enum-known-kind : tie.Need-enum-known-kind
+enum-known-kind c = search needs
 
-abbrev At-loop : Type 0
-At-loop = tie.At-loop Inv-loop μ-loop
+group-kind : (c : tie.After-known-told) → c .before .before .before .args .kind ≡ Group (toZ w64 (ofZ w64 (c .before .kind .given .0 .0)))
+group-kind c = c .before .kind .given .1 ∙ ap Group (sym (toZ-ofZ (sfits-of (c .known-told .given .0 .1))))
 
-abbrev entry : At-loop → Start
-entry l = l .before .before .before
+fill-group-requires : tie.Need-fill-group-requires
+fill-group-requires c κs = let d = c .before in asked (d .before .before .before) _ (group-kind d)
 
--- the operation, and where it stands
-abbrev o : Start → Operation Row
-o s = operationOf (s .args .kind) (rowIn (s .args .pool .now) (s .args .a)) (rowIn (s .args .pool .now) (s .args .b))
+same-length : tie.Need-same-length
+same-length c = c .before .fill-group .ensures .1 .0
 
-placed : (s : Start) → Placed (s .args .kind) (s .args .a) (s .args .b) (toZ w64 (ofZ w64 (s .args .span))) (s .args .at) (s .args .period) (s .args .pool .now)
-placed s = rw (toZ-ofZ (s .fits .span)) (s .pre .1)
+returns : tie.Need-returns
+returns c = let d = c .before .before .before in filled (d .before .before .before) _ (group-kind d) _ _ (c .before .fill-group .ensures)
 
-room : (s : Start) → s .args .at + size (o s) .period ≤ length (s .args .pool .now)
-room s = room-is _ _ _ _ _ _ _ (s .pre .1)
+enum-known-kind-2 : tie.Need-enum-known-kind-2
+enum-known-kind-2 c = search needs
 
-start-in-requires : tie.Need-start-in-requires Inv-loop μ-loop
-start-in-requires c κs = (c .before .pre .0, placed (c .before))
+shift-kind : (c : tie.After-known-told2) → c .before .before .before .args .kind ≡ Shift (toZ w64 (ofZ w64 (c .before .kind2 .given .0 .0)))
+shift-kind c = c .before .kind2 .given .1 ∙ ap Shift (sym (toZ-ofZ (sfits-of (c .known-told2 .given .0 .1))))
 
-loop-holds : tie.Need-loop-holds Inv-loop μ-loop
-loop-holds c = let s = c .before .before in (writes-none (o s) (s .args .at) (s .args .pool .now) (room s), c .start-in .ensures)
+fill-shift-requires : tie.Need-fill-shift-requires
+fill-shift-requires c κs = let d = c .before in asked (d .before .before .before) _ (shift-kind d)
 
--- ---- a step
+same-length-2 : tie.Need-same-length-2
+same-length-2 c = c .before .fill-shift .ensures .1 .0
 
-step-in-requires : tie.Need-step-in-requires Inv-loop μ-loop
-step-in-requires c κs =
-    let l = c .before .before in
-    let s = entry l in
-    let w = l .loop .inv .0 in
-    let p = placed s in
-    let k = s .args .kind in
-    let x = same-rows (λ a b. Given k a b × Scanning k a b (pos (l .loop .t)) (l .loop .s)) (sym (a-kept _ _ _ _ _ _ _ p _ _ _ w)) (sym (b-kept _ _ _ _ _ _ _ p _ _ _ w)) (s .pre .0, l .loop .inv .1) in
-    (x .0, (placed-kept _ _ _ _ _ _ _ p _ _ _ w, (reached _ _ _ _ _ _ _ p _ _ _ w (c .before .loop-test .taken), x .1)))
+returns-2 : tie.Need-returns-2
+returns-2 c = let d = c .before .before .before in filled (d .before .before .before) _ (shift-kind d) _ _ (c .before .fill-shift .ensures)
 
-abbrev After-step : Type 0
-After-step = tie.After-step-in Inv-loop μ-loop
+enum-known-kind-3 : tie.Need-enum-known-kind-3
+enum-known-kind-3 c = search needs
 
-abbrev at-loop : After-step → At-loop
-at-loop c = c .before .before .before
+renumber-kind : (c : tie.After-known-told3) → c .before .before .before .args .kind ≡ Renumber (toZ w64 (ofZ w64 (c .before .kind3 .given .0 .0)))
+renumber-kind c = c .before .kind3 .given .1 ∙ ap Renumber (sym (toZ-ofZ (sfits-of (c .known-told3 .given .0 .1))))
 
-stepped : (c : After-step) → let l = at-loop c in let s = entry l in
-    (found (c .step-in .result .label) ≡ result (o s) (pos (l .loop .t)))
-    × Scanning (s .args .kind) (rowIn (s .args .pool .now) (s .args .a)) (rowIn (s .args .pool .now) (s .args .b)) (pos (l .loop .t + 1)) (c .step-in .result .next)
-stepped c =
-    let l = at-loop c in
-    let s = entry l in
-    let w = l .loop .inv .0 in
-    let p = placed s in
-    let k = s .args .kind in
-    same-rows (λ a b. (found (c .step-in .result .label) ≡ result (operationOf k a b) (pos (l .loop .t))) × Scanning k a b (pos (l .loop .t + 1)) (c .step-in .result .next)) (a-kept _ _ _ _ _ _ _ p _ _ _ w) (b-kept _ _ _ _ _ _ _ p _ _ _ w)
-    (c .step-in .ensures)
+fill-renumber-requires : tie.Need-fill-renumber-requires
+fill-renumber-requires c κs = let d = c .before in asked (d .before .before .before) _ (renumber-kind d)
 
--- the instant is one of the working row, and its cell one of the pool
-before-end : (c : After-step) → let l = at-loop c in l .loop .t < size (o (entry l)) .period
-before-end c = omega (arith, c .before .before .loop-test .taken, entry (at-loop c) .pre .1 .is-period)
+same-length-3 : tie.Need-same-length-3
+same-length-3 c = c .before .fill-renumber .ensures .1 .0
 
-same : (l : At-loop) → length (l .loop .pool) ≡ length (entry l .args .pool .now)
-same l = let s = entry l in writes-length (o s) (s .args .at) (s .args .pool .now) (room s) _ _ _ (l .loop .inv .0)
+returns-3 : tie.Need-returns-3
+returns-3 c = let d = c .before .before .before in filled (d .before .before .before) _ (renumber-kind d) _ _ (c .before .fill-renumber .ensures)
 
-index : (c : After-step) → let l = at-loop c in (entry l .args .at + l .loop .t < length (l .loop .pool)) × (length (l .loop .pool) ≤ 1048576)
-index c =
-    let l = at-loop c in
-    let e = same l in
-    let h = before-end c in
-    let r = room (entry l) in
-    (omega arith, omega (arith, entry l .pre .1 .at-most))
+enum-known-kind-4 : tie.Need-enum-known-kind-4
+enum-known-kind-4 c = search needs
 
-enum-known-label : tie.Need-enum-known-label Inv-loop μ-loop
-enum-known-label c = search needs
+fill-alter-requires : tie.Need-fill-alter-requires
+fill-alter-requires c κs = let d = c .before in asked (d .before .before .before) _ (d .before .kind4 .given .1)
 
-in-range-requires : tie.Need-in-range-requires Inv-loop μ-loop
-in-range-requires c κs = tt
+same-length-4 : tie.Need-same-length-4
+same-length-4 c = c .before .fill-alter .ensures .1 .0
 
-enum-told : tie.Need-enum-told Inv-loop μ-loop
+returns-4 : tie.Need-returns-4
+returns-4 c = let d = c .before .before .before in filled (d .before .before .before) _ (d .before .kind4 .given .1) _ _ (c .before .fill-alter .ensures)
+
+enum-told : tie.Need-enum-told
 enum-told c = search needs
 
--- ---- a label
+fill-combine-requires : tie.Need-fill-combine-requires
+fill-combine-requires c κs = let d = c .before in asked (d .before .before) _ (d .enum-told .given .1)
 
--- as the machine has it
-abbrev label : tie.After-known-told Inv-loop μ-loop → ℤ
-label c = toZ w64 (ofZ w64 (c .before .label .given .0 .0))
+same-length-5 : tie.Need-same-length-5
+same-length-5 c = c .before .fill-combine .ensures .1 .0
 
-label-is : (c : tie.After-known-told Inv-loop μ-loop) → let l = at-loop (c .before .before .before) in some (label c) ≡ result (o (entry l)) (pos (l .loop .t))
-label-is c = ap some (toZ-ofZ (sfits-of (c .known-told .given .0 .1))) ∙ sym (ap found (c .before .label .given .1)) ∙ stepped (c .before .before .before) .0
+returns-5 : tie.Need-returns-5
+returns-5 c = let d = c .before .before .before in filled (d .before .before) _ (d .enum-told .given .1) _ _ (c .before .fill-combine .ensures)
 
-same-length : tie.Need-same-length Inv-loop μ-loop
-same-length c = same (at-loop (c .before .before .before .before .before))
+enum-told-2 : tie.Need-enum-told-2
+enum-told-2 c = search needs
 
-returns : tie.Need-returns Inv-loop μ-loop
-returns c =
-    let k = c .before .before in
-    let l = at-loop (k .before .before .before) in
-    let s = entry l in
-    let h = before-end (k .before .before .before) in
-    let r : inRange (label k) ≡ false = sym (c .before .in-range .ensures) ∙ not-true _ (c .if1 .taken) in
-    (filled-out (o s) _ h (label k) (label-is k) r, (same l, λ e. absurd (true≢false e (out-of-range (o s) _ h (label k) (label-is k) r))))
+fill-anchor-requires : tie.Need-fill-anchor-requires
+fill-anchor-requires c κs = let d = c .before in asked (d .before .before) _ (d .enum-told2 .given .1)
 
-in-range : (c : tie.Else1 Inv-loop μ-loop) → inRange (label (c .before .before)) ≡ true
-in-range c = sym (c .before .in-range .ensures) ∙ not-false _ (c .if1 .left)
+same-length-6 : tie.Need-same-length-6
+same-length-6 c = c .before .fill-anchor .ensures .1 .0
 
-cast-pool : tie.Need-cast-pool Inv-loop μ-loop
-cast-pool c = range-fits _ (in-range c)
+returns-6 : tie.Need-returns-6
+returns-6 c = let d = c .before .before .before in filled (d .before .before) _ (d .enum-told2 .given .1) _ _ (c .before .fill-anchor .ensures)
 
-add-t22 : tie.Need-add-t22 Inv-loop μ-loop
-add-t22 c = let h = index (c .before .before .before .before .before) in omega arith
+enum-known-kind-5 : tie.Need-enum-known-kind-5
+enum-known-kind-5 c = search needs
 
-mul-t23 : tie.Need-mul-t23 Inv-loop μ-loop
-mul-t23 c = let h = index (c .before .before .before .before .before) in omega arith
+fill-select-requires : tie.Need-fill-select-requires
+fill-select-requires c κs = let d = c .before in asked (d .before .before .before) _ (d .before .kind5 .given .1)
 
-slice-set-from-pool : tie.Need-slice-set-from-pool Inv-loop μ-loop
-slice-set-from-pool c = index (c .before .before .before .before .before) .0
+same-length-7 : tie.Need-same-length-7
+same-length-7 c = c .before .fill-select .ensures .1 .0
 
--- ---- no label
+returns-7 : tie.Need-returns-7
+returns-7 c = let d = c .before .before .before in filled (d .before .before .before) _ (d .before .kind5 .given .1) _ _ (c .before .fill-select .ensures)
 
-add-pool : tie.Need-add-pool Inv-loop μ-loop
-add-pool c = let h = index (c .before .before) in omega arith
+enum-known-kind-6 : tie.Need-enum-known-kind-6
+enum-known-kind-6 c = search needs
 
-mul-pool : tie.Need-mul-pool Inv-loop μ-loop
-mul-pool c = let h = index (c .before .before) in omega arith
+fill-by-labels-requires : tie.Need-fill-by-labels-requires
+fill-by-labels-requires c κs = let d = c .before in asked (d .before .before .before) _ (d .before .kind6 .given .1)
 
-slice-set-of-pool : tie.Need-slice-set-of-pool Inv-loop μ-loop
-slice-set-of-pool c = index (c .before .before) .0
+same-length-8 : tie.Need-same-length-8
+same-length-8 c = c .before .fill-by-labels .ensures .1 .0
 
--- ---- the next turn
+returns-8 : tie.Need-returns-8
+returns-8 c = let d = c .before .before .before in filled (d .before .before .before) _ (d .before .kind6 .given .1) _ _ (c .before .fill-by-labels .ensures)
 
-add-t : tie.Need-add-t Inv-loop μ-loop
-add-t c = let h = index (c .before .before) in omega arith
+enum-told-3 : tie.Need-enum-told-3
+enum-told-3 c = search needs
 
-loop-less : tie.Need-loop-less Inv-loop μ-loop
-loop-less c = omega (arith, c .before .before .before .before .loop-test .taken)
+fill-any-requires : tie.Need-fill-any-requires
+fill-any-requires c κs = let s = c .before .before .before in rw (toZ-ofZ (s .fits .span)) (s .pre)
 
--- the label x is written
-one-more : (c : After-step) (x : Option ℤ) (pool : List ℤ) (labelled : Bool) → let l = at-loop c in let s = entry l in
-    x ≡ result (o s) (pos (l .loop .t))
-    → ifLabel x inRange ≡ true
-    → pool ≡ set (l .loop .pool) (s .args .at + l .loop .t) (cellOf x)
-    → labelled ≡ isSome x || l .loop .labelled
-    → Writes (o s) (s .args .at) (s .args .pool .now) pool labelled (l .loop .t + 1)
-one-more c x pool labelled e r p q =
-    let l = at-loop c in
-    let s = entry l in
-    rw (p, q) (writes-more (o s) (s .args .at) (s .args .pool .now) (room s) _ _ _ (l .loop .inv .0) x (before-end c) e r)
+same-length-9 : tie.Need-same-length-9
+same-length-9 c = c .before .fill-any .ensures .1 .0
 
-loop-again : tie.Need-loop-again Inv-loop μ-loop
-loop-again c =
-    let n = c .before .before in
-    let l = at-loop n .loop in
-    let i = entry (at-loop n) .args .at + l .t in (
-      ⊎-elim
-          (λ x. let k : tie.Else1 Inv-loop μ-loop = record { before = record { before = record { before = record { before = record { before = n; match = x .0 }; label = x .1 }; known-told = x .2 }; in-range = x .3 }; if1 = x .4 } in
-          one-more n (some (label (k .before .before))) _ _ (label-is (k .before .before)) (in-range k) (x .5 ∙ ap (set (l .pool) i) (toZ-ofZ (cast-pool k))) (x .6))
-          (λ x. one-more n none _ _ (sym (ap found (x .1 .given .1)) ∙ stepped n .0) refl (x .2) (x .3))
-          (c .before .match .came),
-      stepped n .1,
-    )
-
--- ---- the end
-
-done : (c : tie.After-loop Inv-loop μ-loop) → size (o (entry (c .before))) .period ≤ c .before .loop .t
-done c = omega (arith, c .loop-test .left, entry (c .before) .pre .1 .is-period)
-
-all-cells : (c : tie.After-loop Inv-loop μ-loop) → let l = c .before in let s = entry l in
-    l .loop .pool ≡ take (s .args .at) (s .args .pool .now) ++ (working (o s) .cells ++ drop (s .args .at + s .args .period) (s .args .pool .now))
-all-cells c =
-    let l = c .before in
-    let s = entry l in
-    let all = writes-all (o s) (s .args .at) (s .args .pool .now) (room s) _ _ _ (l .loop .inv .0) (done c) in
-    all ∙ ap (λ (n : ℕ). take (s .args .at) (s .args .pool .now) ++ (working (o s) .cells ++ drop (s .args .at + n) (s .args .pool .now))) (sym (s .pre .1 .is-period))
-
-same-length-2 : tie.Need-same-length-2 Inv-loop μ-loop
-same-length-2 c = same (c .before .before)
-
-returns-2 : tie.Need-returns-2 Inv-loop μ-loop
-returns-2 c = let l = c .before .before in let d = done (c .before) in (writes-labelled _ _ _ (room (entry l)) _ _ _ (l .loop .inv .0) d (c .if2 .taken), (same l, λ e. all-cells (c .before)))
-
-same-length-3 : tie.Need-same-length-3 Inv-loop μ-loop
-same-length-3 c = same (c .before .before)
-
-returns-3 : tie.Need-returns-3 Inv-loop μ-loop
-returns-3 c = let l = c .before .before in let d = done (c .before) in (writes-unlabelled _ _ _ (room (entry l)) _ _ _ (l .loop .inv .0) d (c .if2 .left), (same l, λ e. all-cells (c .before)))
+returns-9 : tie.Need-returns-9
+returns-9 c = c .before .fill-any .ensures
 
 pub fill-spec : {M : Type 1} → statement M
 fill-spec =
     tie.close
     (tie.spec
-    Inv-loop
-    μ-loop
-    start-in-requires
-    loop-holds
-    step-in-requires
-    enum-known-label
-    in-range-requires
+    enum-known-kind
+    fill-group-requires
+    enum-known-kind-2
+    fill-shift-requires
+    enum-known-kind-3
+    fill-renumber-requires
+    enum-known-kind-4
+    fill-alter-requires
+    enum-told
+    fill-combine-requires
+    enum-told-2
+    fill-anchor-requires
+    enum-known-kind-5
+    fill-select-requires
+    enum-known-kind-6
+    fill-by-labels-requires
+    enum-told-3
+    fill-any-requires
     same-length
     returns
-    cast-pool
-    add-t22
-    mul-t23
-    slice-set-from-pool
-    enum-told
-    add-pool
-    mul-pool
-    slice-set-of-pool
-    add-t
-    loop-less
-    loop-again
     same-length-2
     returns-2
     same-length-3
-    returns-3)
+    returns-3
+    same-length-4
+    returns-4
+    same-length-5
+    returns-5
+    same-length-6
+    returns-6
+    same-length-7
+    returns-7
+    same-length-8
+    returns-8
+    same-length-9
+    returns-9)
