@@ -105,7 +105,7 @@ fn step_in(
     )
 }
 
-// The same with the step of any kind, for the kinds that have no loop of their own.
+// Fills the cells from `at` on by the step of any kind, for the kinds that have no loop of their own.
 fn fill_any(
     kind: Kind,
     span: i64,
