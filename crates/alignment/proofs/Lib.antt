@@ -5,9 +5,13 @@
 --     Starts       a walk to an instant that has a label
 --     Rising       whether labels rise alike
 --     Passes       a pass over two rows
+--     Looks        a pass that is about to look at an instant
+--     Codes        labels as numbers
 pub mod Pairs
 pub mod Fitting
 pub mod Choices
 pub mod Starts
 pub mod Rising
 pub mod Passes
+pub mod Looks
+pub mod Codes

@@ -8,6 +8,7 @@ ghost use Rattle.calendar.specs.Lists.{equal, isSome, sameLabel};
 ghost use Rattle.calendar.specs.Checks.{alignedAs};
 ghost use Rattle.calendar.specs.Questions.{given};
 ghost use Rattle.rows.specs.Found.{found, Sound};
+ghost use Rattle.alignment.specs.Codes.{codeOf, codedLabel};
 ghost use Rattle.alignment.specs.Fits as Fits;
 ghost use Rattle.alignment.specs.Fits.{alignmentOf};
 ghost use Rattle.alignment.specs.Pass.{Spanned, RiseAlike, Starts, Limited};
@@ -18,6 +19,30 @@ enum Alignment {
     Partition,
     Subcalendar,
     Compatible,
+}
+
+// The number that stands for no label where the pass keeps labels as numbers: no label is as low.
+const NO_LABEL: i64 = -9223372036854775807;
+
+// A label, or none, as a number.
+fn coded(x: Found) -> i64
+    ensures { λ r. ⌜ r ≡ codeOf (found x) ⌝ }
+{
+    match x {
+        Found::At(j) => j,
+        Found::Nothing => NO_LABEL,
+    }
+}
+
+// The label, or none, of such a number.
+fn decoded(x: i64) -> Found
+    ensures { λ r. ⌜ found r ≡ codedLabel x ⌝ }
+{
+    if x == NO_LABEL {
+        Found::Nothing
+    } else {
+        Found::At(x)
+    }
 }
 
 // An instant of the first turn that has a label.
@@ -159,7 +184,8 @@ fn fits(k: Alignment, o: Found, p: Found, x: Found, y: Found) -> bool
     }
 }
 
-// Whether a and b are aligned: each labelled instant of a span fits the one before, from a labelled one up to the same a span later.
+// Whether a and b are aligned: each labelled instant of a span fits the one before, from a labelled one, which fits itself, up to the same
+// a span later.
 fn aligned(
     k: Alignment,
     a_cells: &[i32],
@@ -180,26 +206,25 @@ fn aligned(
     let end = t + span;
     let mut a = rows::cursor_at(a_cells, a_period, a_distance, t);
     let mut b = rows::cursor_at(b_cells, b_period, b_distance, t);
-    let mut o = rows::cursor_label(a_cells, a_period, a_distance, a);
-    let mut p = rows::cursor_label(b_cells, b_period, b_distance, b);
-    if !fits(k, o, p, o, p) {
-        return false;
-    }
-    while t < end {
-        t += 1;
-        a = rows::cursor_next(a_cells, a_period, a_distance, a);
-        b = rows::cursor_next(b_cells, b_period, b_distance, b);
+    let mut o = coded(rows::cursor_label(a_cells, a_period, a_distance, a));
+    let mut p = coded(rows::cursor_label(b_cells, b_period, b_distance, b));
+    loop {
         let x = rows::cursor_label(a_cells, a_period, a_distance, a);
         let y = rows::cursor_label(b_cells, b_period, b_distance, b);
         if either(x, y) {
-            if !fits(k, o, p, x, y) {
+            if !fits(k, decoded(o), decoded(p), x, y) {
                 return false;
             }
-            o = x;
-            p = y;
+            o = coded(x);
+            p = coded(y);
         }
+        if t == end {
+            return true;
+        }
+        t += 1;
+        a = rows::cursor_next(a_cells, a_period, a_distance, a);
+        b = rows::cursor_next(b_cells, b_period, b_distance, b);
     }
-    true
 }
 
 // Whether a and b label the same instants and each granule of a lies in one of b, as alter asks.

@@ -1,17 +1,19 @@
 -- `alignment::aligned` meets its contract: it is a pass over the two rows.
 -- Assumes nothing.
 use borrow.Author.Needs.{sfits-of}
-use mathlib.Core.Path.{_≡_, sym, _∙_, ap, subst}
-use mathlib.Core.Logic.{inl}
+use mathlib.Core.Path.{_≡_, sym, _∙_, ap, ap₂, subst}
+use mathlib.Core.Logic.{inl, ⊎-elim}
+use mathlib.Core.Option.{Option}
 use native.Mathlib.Omega.{arith}
-use Prim.Native.Nat.{_<_}
+use Prim.Native.Nat.{ℕ}
 use lib.IntN.{ℤ, pos, _+ℤ_, _-ℤ_}
 use lib.Signed.{_≤ℤ_, _<ℤ_}
 use mir.Facts.{toZ-ofZ}
 use mir.Syntax.{w64}
-use mir.Val.{toZ, ofZ}
+use mir.Val.{SFits, toZ, ofZ}
 use Rattle.integers.specs.Parts.{up}
 use Rattle.integers.proofs.Linear.{ints, _∴_}
+use Rattle.integers.proofs.Order.{le-or-lt}
 use Rattle.integers.proofs.Machine.{plain}
 use Rattle.calendar.specs.Meaning.{Row, meant}
 use Rattle.calendar.specs.Operation as Operation
@@ -23,17 +25,22 @@ use Rattle.rows.specs.Found.{Sound, Near, found}
 use Rattle.rows.specs.Cursor.{cursorAt}
 use Rattle.rows.proofs.Numbers.{numbers, valid}
 use borrow.Author.Tests.{not-false}
+use Rattle.alignment.specs.Codes.{codeOf, codedLabel}
 use Rattle.alignment.specs.Fits.{alignmentOf, fits}
 use Rattle.alignment.specs.Pass.{Starts, Spanned, RiseAlike}
 use Rattle.alignment.proofs.Choices.{outcome}
 use Rattle.alignment.proofs.Starts.{left-less}
-use Rattle.alignment.proofs.Passes.{Passed, pass-start, pass-over, pass-to, labelled-of, unlabelled-of, pass-end, pass-fails}
+use Rattle.alignment.proofs.Passes.{Passed, labelled-of, unlabelled-of, pass-end}
+use Rattle.alignment.proofs.Looks.{Looks, look-first, look-next, look-over, look-to, look-fails}
+use Rattle.alignment.proofs.Codes.{read-back}
 use Rattle.alignment.proofs.aligned.Statement.{statement}
 use Rattle.alignment.proofs.aligned.Tie as tie
 
 abbrev Inv-loop : tie.InvT-loop
 Inv-loop k a-cells a-period a-distance b-cells b-period b-distance span t₀ end a₀ b₀ o₀ p₀ t a b o p =
-    Passed (alignmentOf k) (given (toZ w64 a-period) (toZ w64 a-distance) a-cells) (given (toZ w64 b-period) (toZ w64 b-distance) b-cells) (toZ w64 t₀) (toZ w64 t) a b (found o) (found p)
+    Looks (alignmentOf k) (given (toZ w64 a-period) (toZ w64 a-distance) a-cells) (given (toZ w64 b-period) (toZ w64 b-distance) b-cells) (toZ w64 t₀) (toZ w64 t) a b
+    (codedLabel (toZ w64 o)) (codedLabel (toZ w64 p))
+    × (t ≡ ofZ w64 (toZ w64 t))
 
 abbrev μ-loop : tie.MeasureT-loop
 μ-loop k a-cells a-period a-distance b-cells b-period b-distance span t₀ end a₀ b₀ o₀ p₀ t a b o p = up (toZ w64 t₀ +ℤ toZ w64 span -ℤ toZ w64 t)
@@ -126,42 +133,43 @@ cursor-at-requires-2 c κs = (b-sound (c .before .before), near-start (c .before
 cursor-label-requires : tie.Need-cursor-label-requires Inv-loop μ-loop
 cursor-label-requires c κs = (a-sound (c .before .before .before), (from (c .before .before), near-start (c .before .before), c .before .cursor-at .ensures))
 
+coded-requires : tie.Need-coded-requires Inv-loop μ-loop
+coded-requires c κs = tt
+
 cursor-label-requires-2 : tie.Need-cursor-label-requires-2 Inv-loop μ-loop
-cursor-label-requires-2 c κs = (b-sound (c .before .before .before .before), (from (c .before .before .before), near-start (c .before .before .before), c .before .cursor-at2 .ensures))
-
-fits-requires : tie.Need-fits-requires Inv-loop μ-loop
-fits-requires c κs = tt
-
--- the labels there
-a-first : (c : tie.After-cursor-label2 Inv-loop μ-loop) → found (c .before .cursor-label .result) ≡ meant (a-row (c .before .before .before .before .before)) (from (c .before .before .before .before))
-a-first c = c .before .cursor-label .ensures (from (c .before .before .before .before)) (c .before .before .before .cursor-at .ensures)
-
-b-first : (c : tie.After-cursor-label2 Inv-loop μ-loop) → found (c .cursor-label2 .result) ≡ meant (b-row (c .before .before .before .before .before)) (from (c .before .before .before .before))
-b-first c = c .cursor-label2 .ensures (from (c .before .before .before .before)) (c .before .before .cursor-at2 .ensures)
-
-returns : tie.Need-returns Inv-loop μ-loop
-returns c =
+cursor-label-requires-2 c κs =
     let d = c .before .before in
-    let l = d .before .before .before .before in
-    let s = l .before in
-    let p = s .fits .a-period in
-    let n = s .fits .a-distance in
-    let q = s .fits .b-period in
-    let m = s .fits .b-distance in
-    let e =
-    pass-fails (kind s) (a-row s) (b-row s) (a-rules s) (b-rules s) (alike s) (from l) (from l) _ _ _ _ (simp ints (omega arith)) (simp ints (omega arith))
-    (a-first d) (b-first d) (a-first d) (b-first d) (outcome (c .before .fits2 .ensures) (not-iff (c .before .fits2 .result) .0 (c .if1 .taken))) in
-    sym (simp plain at e)
+    (b-sound (d .before .before .before), (from (d .before .before), near-start (d .before .before), d .cursor-at2 .ensures))
+
+coded-requires-2 : tie.Need-coded-requires-2 Inv-loop μ-loop
+coded-requires-2 c κs = tt
+
+-- the label of an instant as a number
+a-read : (s : Start) (t : ℤ) → Near t → (o : Option ℤ) → o ≡ meant (a-row s) t → (z : ℤ) → SFits w64 z → z ≡ codeOf o → codedLabel (toZ w64 (ofZ w64 z)) ≡ o
+a-read s = read-back (toZ w64 (ofZ w64 (s .args .a-period))) (toZ w64 (ofZ w64 (s .args .a-distance))) (s .args .a-cells .now) (a-sound s)
+
+b-read : (s : Start) (t : ℤ) → Near t → (o : Option ℤ) → o ≡ meant (b-row s) t → (z : ℤ) → SFits w64 z → z ≡ codeOf o → codedLabel (toZ w64 (ofZ w64 z)) ≡ o
+b-read s = read-back (toZ w64 (ofZ w64 (s .args .b-period))) (toZ w64 (ofZ w64 (s .args .b-distance))) (s .args .b-cells .now) (b-sound s)
+
+bits : (z : ℤ) → SFits w64 z → ofZ w64 z ≡ ofZ w64 (toZ w64 (ofZ w64 z))
+bits z f = ap (ofZ w64) (sym (toZ-ofZ f))
 
 loop-holds : tie.Need-loop-holds Inv-loop μ-loop
 loop-holds c =
-    let d = c .before .before in
-    let l = d .before .before .before .before in
+    let q = c .before in
+    let e = q .before in
+    let d = e .before in
+    let l = d .before .before .before in
     let s = l .before in
-    pass-start (kind s) (a-row s) (b-row s) (a-rules s) (b-rules s) (from l) _ _ _ _ (d .before .before .before .cursor-at .ensures) (d .before .before .cursor-at2 .ensures) (inl (starts l .labelled))
-    (a-first d) (b-first d) (outcome (c .before .fits2 .ensures) (not-false (c .before .fits2 .result) (c .if1 .left)))
+    let x : found (d .cursor-label .result) ≡ meant (a-row s) (from l) = d .cursor-label .ensures (from l) (d .before .before .cursor-at .ensures) in
+    let y : found (q .cursor-label2 .result) ≡ meant (b-row s) (from l) = q .cursor-label2 .ensures (from l) (d .before .cursor-at2 .ensures) in (
+      look-first (kind s) (a-row s) (b-row s) (from l) _ _ _ _ (d .before .before .cursor-at .ensures) (d .before .cursor-at2 .ensures) (inl (starts l .labelled))
+          (a-read s (from l) (near-start l) _ x _ (sfits-of (e .coded .ok)) (e .coded .ensures) ∙ x)
+          (b-read s (from l) (near-start l) _ y _ (sfits-of (c .coded2 .ok)) (c .coded2 .ensures) ∙ y),
+      bits (l .labelled-instant .result) (sfits-of (l .labelled-instant .ok)),
+    )
 
--- ---- the loop
+-- ---- the look at an instant
 
 abbrev At : Type 0
 At = tie.At-loop Inv-loop μ-loop
@@ -169,133 +177,178 @@ At = tie.At-loop Inv-loop μ-loop
 abbrev begun : At → Begun
 begun c = c .before .before .before .before .before .before .before
 
+abbrev start : At → Start
+start c = begun c .before
+
 abbrev at : At → ℤ
 at c = toZ w64 (c .loop .t)
 
 -- the end, as the machine has it
-end-is : (c : At) → toZ w64 (ofZ w64 (from (begun c) +ℤ S (begun c .before))) ≡ from (begun c) +ℤ pos (spanOf (turn (a-row (begun c .before))) (turn (b-row (begun c .before))))
-end-is c = toZ-ofZ (add-end (begun c)) ∙ ap (λ (z : ℤ). from (begun c) +ℤ z) (spanned (begun c .before) .is-span)
+end-is : (c : At) → toZ w64 (ofZ w64 (from (begun c) +ℤ S (start c))) ≡ from (begun c) +ℤ pos (spanOf (turn (a-row (start c))) (turn (b-row (start c))))
+end-is c = toZ-ofZ (add-end (begun c)) ∙ ap (λ (z : ℤ). from (begun c) +ℤ z) (spanned (start c) .is-span)
 
 near : (c : At) → Near (at c) × Near (at c +ℤ pos 1)
 near c =
-    let s = spanned (begun c .before) in
-    below (begun c) ∴ s .is-span ∴ s .at-most ∴ c .loop .inv .low ∴ c .loop .inv .high ∴ simp ints (omega arith)
-
-add-t : tie.Need-add-t Inv-loop μ-loop
-add-t c = near (c .before) .1 ∴ simp ints (omega arith)
-
--- the next instant, as the machine has it
-abbrev In : Type 0
-In = tie.In-loop Inv-loop μ-loop
-
-abbrev next : In → ℤ
-next c = toZ w64 (ofZ w64 (at (c .before) +ℤ pos 1))
-
-step : (c : In) → next c ≡ at (c .before) +ℤ pos 1
-step c = toZ-ofZ (add-t c)
-
-inner : (c : In) → at (c .before) <ℤ (from (begun (c .before)) +ℤ pos (spanOf (turn (a-row (begun (c .before) .before))) (turn (b-row (begun (c .before) .before)))))
-inner c = let e = end-is (c .before) in (simp plain at (c .loop-test .taken)) ∴ e ∴ simp ints (omega arith)
-
-near-next : (c : In) → Near (next c)
-near-next c = near (c .before) .1 ∴ step c ∴ simp ints (omega arith)
-
-cursor-next-requires : tie.Need-cursor-next-requires Inv-loop μ-loop
-cursor-next-requires c κs = (a-sound (begun (c .before) .before), (at (c .before), near (c .before) .0, c .before .loop .inv .a-cursor))
-
-cursor-next-requires-2 : tie.Need-cursor-next-requires-2 Inv-loop μ-loop
-cursor-next-requires-2 c κs = let l = c .before .before in (b-sound (begun l .before), (at l, near l .0, l .loop .inv .b-cursor))
-
-a-next : (c : tie.After-cursor-next2 Inv-loop μ-loop) → let i = c .before .before in c .before .cursor-next .result ≡ cursorAt (a-row (begun (i .before) .before)) (next i)
-a-next c = let i = c .before .before in c .before .cursor-next .ensures (at (i .before)) (i .before .loop .inv .a-cursor) ∙ ap (cursorAt (a-row (begun (i .before) .before))) (sym (step i))
-
-b-next : (c : tie.After-cursor-next2 Inv-loop μ-loop) → let i = c .before .before in c .cursor-next2 .result ≡ cursorAt (b-row (begun (i .before) .before)) (next i)
-b-next c = let i = c .before .before in c .cursor-next2 .ensures (at (i .before)) (i .before .loop .inv .b-cursor) ∙ ap (cursorAt (b-row (begun (i .before) .before))) (sym (step i))
+    let s = spanned (start c) in
+    below (begun c) ∴ s .is-span ∴ s .at-most ∴ c .loop .inv .0 .low ∴ c .loop .inv .0 .high ∴ simp ints (omega arith)
 
 cursor-label-requires-3 : tie.Need-cursor-label-requires-3 Inv-loop μ-loop
-cursor-label-requires-3 c κs = let i = c .before .before in (a-sound (begun (i .before) .before), (next i, near-next i, a-next c))
+cursor-label-requires-3 c κs = (a-sound (start c), (at c, near c .0, c .loop .inv .0 .a-cursor))
 
 cursor-label-requires-4 : tie.Need-cursor-label-requires-4 Inv-loop μ-loop
-cursor-label-requires-4 c κs = let i = c .before .before .before in (b-sound (begun (i .before) .before), (next i, near-next i, b-next (c .before)))
+cursor-label-requires-4 c κs = let l = c .before in (b-sound (start l), (at l, near l .0, l .loop .inv .0 .b-cursor))
 
 -- its labels
 abbrev Seen : Type 0
 Seen = tie.After-cursor-label4 Inv-loop μ-loop
 
-abbrev inside : Seen → In
-inside c = c .before .before .before .before
+abbrev loop : Seen → At
+loop c = c .before .before
 
-abbrev first : Seen → Start
-first c = begun (inside c .before) .before
+a-label : (c : Seen) → found (c .before .cursor-label3 .result) ≡ meant (a-row (start (loop c))) (at (loop c))
+a-label c = c .before .cursor-label3 .ensures (at (loop c)) (loop c .loop .inv .0 .a-cursor)
 
-a-label : (c : Seen) → found (c .before .cursor-label3 .result) ≡ meant (a-row (first c)) (next (inside c))
-a-label c = c .before .cursor-label3 .ensures (next (inside c)) (a-next (c .before .before))
-
-b-label : (c : Seen) → found (c .cursor-label4 .result) ≡ meant (b-row (first c)) (next (inside c))
-b-label c = c .cursor-label4 .ensures (next (inside c)) (b-next (c .before .before))
+b-label : (c : Seen) → found (c .cursor-label4 .result) ≡ meant (b-row (start (loop c))) (at (loop c))
+b-label c = c .cursor-label4 .ensures (at (loop c)) (loop c .loop .inv .0 .b-cursor)
 
 either-requires : tie.Need-either-requires Inv-loop μ-loop
 either-requires c κs = tt
 
-fits-requires-2 : tie.Need-fits-requires-2 Inv-loop μ-loop
-fits-requires-2 c κs = tt
+decoded-requires : tie.Need-decoded-requires Inv-loop μ-loop
+decoded-requires c κs = tt
 
-returns-2 : tie.Need-returns-2 Inv-loop μ-loop
-returns-2 c =
-    let d = c .before .before .before .before in
-    let i = inside d in
-    let w = i .before .loop .inv in
-    let s = first d in
+decoded-requires-2 : tie.Need-decoded-requires-2 Inv-loop μ-loop
+decoded-requires-2 c κs = tt
+
+fits-requires : tie.Need-fits-requires Inv-loop μ-loop
+fits-requires c κs = tt
+
+-- whether they fit those before
+abbrev seen : tie.After-fits2 Inv-loop μ-loop → Seen
+seen c = c .before .before .before .before .before
+
+fits-is : (c : tie.After-fits2 Inv-loop μ-loop) → let d = seen c in let l = loop d in
+    c .fits2 .result ≡ fits (kind (start l)) (codedLabel (toZ w64 (l .loop .o))) (codedLabel (toZ w64 (l .loop .p))) (found (d .before .cursor-label3 .result)) (found (d .cursor-label4 .result))
+fits-is c =
+    let d = seen c in
+    c .fits2 .ensures
+    ∙ ap₂ (λ (o p : Option ℤ). fits (kind (start (loop d))) o p (found (d .before .cursor-label3 .result)) (found (d .cursor-label4 .result))) (c .before .before .decoded .ensures) (c .before .decoded2 .ensures)
+
+returns : tie.Need-returns Inv-loop μ-loop
+returns c =
+    let d = seen (c .before) in
+    let l = loop d in
+    let s = start l in
     let p = s .fits .a-period in
     let n = s .fits .a-distance in
     let q = s .fits .b-period in
     let m = s .fits .b-distance in
     let e =
-    pass-fails (kind s) (a-row s) (b-row s) (a-rules s) (b-rules s) (alike s) (w .last) (next i) _ _ _ _
-    (w .before ∴ step i ∴ simp ints (omega arith)) (w .after ∴ inner i ∴ step i ∴ simp ints (omega arith))
-    (w .o-is) (w .p-is) (a-label d) (b-label d) (outcome (c .before .fits3 .ensures) (not-iff (c .before .fits3 .result) .0 (c .if3 .taken))) in
+    look-fails (kind s) (a-row s) (b-row s) (from (begun l)) (a-rules s) (b-rules s) (at l) _ _ _ _ (l .loop .inv .0) _ _ (a-label d) (b-label d) (alike s)
+    (outcome (fits-is (c .before)) (not-iff (c .before .fits2 .result) .0 (c .if2 .taken))) in
     sym (simp plain at e)
 
-less : (i : In) → let l = begun (i .before) in up (from l +ℤ S (l .before) -ℤ next i) < up (from l +ℤ S (l .before) -ℤ at (i .before))
-less i =
-    let l = begun (i .before) in
-    left-less (from l +ℤ S (l .before)) (at (i .before)) (next i) (step i) (inner i ∴ spanned (l .before) .is-span ∴ simp ints (omega arith))
+coded-requires-3 : tie.Need-coded-requires-3 Inv-loop μ-loop
+coded-requires-3 c κs = tt
 
-loop-less : tie.Need-loop-less Inv-loop μ-loop
-loop-less c = less (inside (c .before .before .before .before))
+coded-requires-4 : tie.Need-coded-requires-4 Inv-loop μ-loop
+coded-requires-4 c κs = tt
 
-loop-again : tie.Need-loop-again Inv-loop μ-loop
-loop-again c =
-    let d = c .before .before .before .before in
-    let i = inside d in
-    let s = first d in
-    pass-to (kind s) (a-row s) (b-row s) (a-rules s) (b-rules s) _ (at (i .before)) (next i) _ _ _ _ _ _ (i .before .loop .inv) (step i) (inner i) (a-next (d .before .before)) (b-next (d .before .before))
-    _ _ (a-label d) (b-label d)
-    (labelled-of (a-row s) (b-row s) (next i) _ _ (a-label d) (b-label d) (outcome (c .before .before .before .either .ensures) (c .before .before .if2 .taken)))
-    (outcome (c .before .fits3 .ensures) (not-false (c .before .fits3 .result) (c .if3 .left)))
+-- it is passed
+abbrev Passes : At → ℕ → ℕ → Type 0
+Passes l o p = Passed (kind (start l)) (a-row (start l)) (b-row (start l)) (from (begun l)) (at l) (l .loop .a) (l .loop .b) (codedLabel (toZ w64 o)) (codedLabel (toZ w64 p))
 
-loop-less-2 : tie.Need-loop-less-2 Inv-loop μ-loop
-loop-less-2 c = less (inside (c .before .before))
+with-labels : (c : tie.After-coded4 Inv-loop μ-loop) → Passes (loop (seen (c .before .before .before))) (ofZ w64 (c .before .coded3 .result)) (ofZ w64 (c .coded4 .result))
+with-labels c =
+    let g = c .before .before .before in
+    let d = seen g in
+    let l = loop d in
+    let s = start l in
+    rw (a-read s (at l) (near l .0) _ (a-label d) _ (sfits-of (c .before .coded3 .ok)) (c .before .coded3 .ensures), b-read s (at l) (near l .0) _ (b-label d) _ (sfits-of (c .coded4 .ok)) (c .coded4 .ensures))
+    (look-to (kind s) (a-row s) (b-row s) (from (begun l)) (a-rules s) (b-rules s) (at l) _ _ _ _ (l .loop .inv .0) _ _ (a-label d) (b-label d)
+    (labelled-of (a-row s) (b-row s) (at l) _ _ (a-label d) (b-label d) (outcome (g .before .before .before .before .either .ensures) (g .before .before .before .if1 .taken)))
+    (outcome (fits-is g) (not-false (g .fits2 .result) (c .before .before .if2 .left))))
 
-loop-again-2 : tie.Need-loop-again-2 Inv-loop μ-loop
-loop-again-2 c =
+with-none : (c : tie.Else1 Inv-loop μ-loop) → let l = loop (c .before .before) in Passes l (l .loop .o) (l .loop .p)
+with-none c =
     let d = c .before .before in
-    let i = inside d in
-    let s = first d in
-    pass-over (kind s) (a-row s) (b-row s) (a-rules s) (b-rules s) _ (at (i .before)) (next i) _ _ _ _ _ _ (i .before .loop .inv) (step i) (inner i) (a-next (d .before .before)) (b-next (d .before .before))
-    (unlabelled-of (a-row s) (b-row s) (next i) _ _ (a-label d) (b-label d) (outcome (c .before .either .ensures) (c .if2 .left)))
+    let l = loop d in
+    let s = start l in
+    look-over (kind s) (a-row s) (b-row s) (from (begun l)) (a-rules s) (b-rules s) (at l) _ _ _ _ (l .loop .inv .0)
+    (unlabelled-of (a-row s) (b-row s) (at l) _ _ (a-label d) (b-label d) (outcome (c .before .either .ensures) (c .if1 .left)))
 
-returns-3 : tie.Need-returns-3 Inv-loop μ-loop
-returns-3 c =
-    let l = begun (c .before) in
-    let s = l .before in
+passed : (c : tie.Joined1 Inv-loop μ-loop) → Passes (loop (c .before .before)) (c .if1 .o) (c .if1 .p)
+passed c =
+    ⊎-elim
+    (λ w. rw (w .7, w .8) (with-labels record {
+      before = record { before = record { before = record { before = record { before = record { before = record { before = c .before; if1 = w .0 }; decoded = w .1 }; decoded2 = w .2 }; fits2 = w .3 }; if2 = w .4 }; coded3 = w .5 };
+      coded4 = w .6;
+    }))
+    (λ w. rw (w .1, w .2) (with-none record { before = c .before; if1 = w .0 }))
+    (c .if1 .came)
+
+-- ---- the end, or the next instant
+
+returns-2 : tie.Need-returns-2 Inv-loop μ-loop
+returns-2 c =
+    let l = loop (c .before .before .before) in
+    let s = start l in
     let p = s .fits .a-period in
     let n = s .fits .a-distance in
     let q = s .fits .b-period in
     let m = s .fits .b-distance in
-    let x = end-is (c .before) in
-    let e = pass-end (kind s) (a-row s) (b-row s) (a-rules s) (b-rules s) (alike s) (from l) (at (c .before)) _ _ _ _ (c .before .loop .inv) ((simp plain at (c .loop-test .left)) ∴ x ∴ simp ints (omega arith)) in
+    let x : at l ≡ _ = ap (toZ w64) (c .if3 .taken) ∙ end-is l in
+    let e = pass-end (kind s) (a-row s) (b-row s) (a-rules s) (b-rules s) (alike s) (from (begun l)) (at l) _ _ _ _ (passed (c .before)) (x ∴ simp ints (omega arith)) in
     sym (simp plain at e)
+
+abbrev On : Type 0
+On = tie.Else3 Inv-loop μ-loop
+
+abbrev looked : On → At
+looked c = loop (c .before .before .before)
+
+add-t : tie.Need-add-t Inv-loop μ-loop
+add-t c = near (looked c) .1 ∴ simp ints (omega arith)
+
+-- the next instant, as the machine has it
+abbrev next : On → ℤ
+next c = toZ w64 (ofZ w64 (at (looked c) +ℤ pos 1))
+
+step : (c : On) → next c ≡ at (looked c) +ℤ pos 1
+step c = toZ-ofZ (add-t c)
+
+inner : (c : On) → let l = looked c in at l <ℤ (from (begun l) +ℤ S (start l))
+inner c =
+    let l = looked c in
+    ⊎-elim
+    (λ h.
+    let e : at l ≡ from (begun l) +ℤ S (start l) = h ∴ l .loop .inv .0 .high ∴ spanned (start l) .is-span ∴ simp ints (omega arith) in
+    absurd (c .if3 .left (l .loop .inv .1 ∙ ap (ofZ w64) e)))
+    (λ h. h)
+    (le-or-lt (from (begun l) +ℤ S (start l)) (at l))
+
+cursor-next-requires : tie.Need-cursor-next-requires Inv-loop μ-loop
+cursor-next-requires c κs = let l = looked c in (a-sound (start l), (at l, near l .0, l .loop .inv .0 .a-cursor))
+
+cursor-next-requires-2 : tie.Need-cursor-next-requires-2 Inv-loop μ-loop
+cursor-next-requires-2 c κs = let l = looked (c .before) in (b-sound (start l), (at l, near l .0, l .loop .inv .0 .b-cursor))
+
+loop-less : tie.Need-loop-less Inv-loop μ-loop
+loop-less c =
+    let i = c .before .before in
+    let l = looked i in
+    left-less (from (begun l) +ℤ S (start l)) (at l) (next i) (step i) (inner i)
+
+loop-again : tie.Need-loop-again Inv-loop μ-loop
+loop-again c =
+    let i = c .before .before in
+    let l = looked i in
+    let s = start l in (
+      look-next (kind s) (a-row s) (b-row s) (from (begun l)) (at l) (next i) _ _ _ _ _ _ (passed (i .before)) (step i) (inner i ∴ spanned s .is-span ∴ simp ints (omega arith))
+          (c .before .cursor-next .ensures (at l) (l .loop .inv .0 .a-cursor) ∙ ap (cursorAt (a-row s)) (sym (step i)))
+          (c .cursor-next2 .ensures (at l) (l .loop .inv .0 .b-cursor) ∙ ap (cursorAt (b-row s)) (sym (step i))),
+      bits (at l +ℤ pos 1) (add-t i),
+    )
 
 pub aligned-spec : {M : Type 1} → statement M
 aligned-spec =
@@ -308,20 +361,22 @@ aligned-spec =
     cursor-at-requires
     cursor-at-requires-2
     cursor-label-requires
+    coded-requires
     cursor-label-requires-2
-    fits-requires
-    returns
+    coded-requires-2
     loop-holds
-    add-t
-    cursor-next-requires
-    cursor-next-requires-2
     cursor-label-requires-3
     cursor-label-requires-4
     either-requires
-    fits-requires-2
+    decoded-requires
+    decoded-requires-2
+    fits-requires
+    returns
+    coded-requires-3
+    coded-requires-4
     returns-2
+    add-t
+    cursor-next-requires
+    cursor-next-requires-2
     loop-less
-    loop-again
-    loop-less-2
-    loop-again-2
-    returns-3)
+    loop-again)
