@@ -15,7 +15,7 @@ use calendar::Refusal;
 use operands::Kind;
 use spanning::Alignment;
 
-mod altering;
+mod altered;
 mod grouping;
 mod spanning;
 
@@ -81,7 +81,7 @@ pub fn check(
             a_period,
             rows::granules(a_cells, a_period, a_distance),
         ),
-        Kind::Alter(by) => altering::alter(
+        Kind::Alter(by) => altered::alter(
             by,
             room,
             a_cells,

@@ -25,9 +25,9 @@ use Rattle.checks.specs.declared.Extent.{Extent}
 use Rattle.checks.specs.declared.Checked.{Checked}
 use Rattle.checks.specs.declared.Checked.the-variants.{Refused, Passed}
 use Rattle.checks.specs.Admission.{extent, admission, checkedOf}
-use Rattle.operations.specs.declared.filling.Filled.{Filled}
-use Rattle.operations.specs.declared.filling.Filled.the-variants.{Labelled, Unlabelled, OutOfRange}
-use Rattle.operations.specs.Filling.{filledAs}
+use Rattle.filling.specs.declared.Filled.{Filled}
+use Rattle.filling.specs.declared.Filled.the-variants.{Labelled, Unlabelled, OutOfRange}
+use Rattle.filling.specs.Placed.{filledAs}
 
 -- what the checks have shown
 pub record Admitted (o : Operation Row) (room : ℕ) (x : Extent) : Type 0 where

@@ -29,10 +29,10 @@ use Rattle.checks.specs.Admission.{admission}
 use Rattle.operands.specs.declared.Kind.{Kind}
 use Rattle.operands.specs.declared.Operand.{Operand}
 use Rattle.operands.specs.Stands.{rowIn}
-use Rattle.operations.specs.Scanning.{Given}
-use Rattle.operations.specs.Filling.{Placed, filledAs}
-use Rattle.operations.specs.declared.filling.Filled.{Filled}
-use Rattle.operations.specs.declared.filling.Filled.the-variants.{Labelled}
+use Rattle.filling.specs.Given.{Given}
+use Rattle.filling.specs.Placed.{Placed, filledAs}
+use Rattle.filling.specs.declared.Filled.{Filled}
+use Rattle.filling.specs.declared.Filled.the-variants.{Labelled}
 use Rattle.conversion.specs.declared.Entry.the-variants.{Ends}
 use Rattle.conversion.specs.Entering.{over, Enterable, Worked, Added, Became}
 use Rattle.entries.proofs.Naturals.{natAbs-up}

@@ -26,9 +26,9 @@ use calendar::Calendar;
 use calendar::Refusal;
 use checks::Checked;
 use checks::Extent;
+use filling::Filled;
 use operands::Kind;
 use operands::Operand;
-use operations::filling::Filled;
 
 // The row whose heading is the j-th.
 fn operand_at(headings: &[u32], j: usize) -> Operand
@@ -161,15 +161,7 @@ fn write(
     ensures lengths { λ r. ⌜ (length (now (headings .exit)) ≡ length (now (headings .entry))) × (length (now (pool .exit)) ≡ length (now (pool .entry))) ⌝ }
     ensures became { λ r. ⌜ Became k used (now (headings .entry)) (now (pool .entry)) (converted (over kind (now (pool .entry)) a b) (length (now (pool .entry)) - used)) r (now (headings .exit)) (now (pool .exit)) ⌝ }
 {
-    let filled = operations::filling::fill(
-        kind,
-        extent.span,
-        used,
-        extent.period as usize,
-        pool,
-        a,
-        b,
-    );
+    let filled = operations::fill(kind, extent.span, used, extent.period as usize, pool, a, b);
     match filled {
         Filled::Unlabelled => Entry::Refused(Refusal::NothingLabelled.number()),
         Filled::OutOfRange => Entry::Refused(Refusal::LabelOutsideLimits.number()),

@@ -101,8 +101,9 @@ fn convert_entries(table: &[i32], n: usize, headings: &mut [u32], pool: &mut [i3
     Conversion::Converted
 }
 
-// Converts a table. Answered, the pool holds the least row of each entry and the headings say where; after a refusal every cell is empty and every
-// number of a heading is zero.
+// Converts a table. Answered, the pool holds the least row of each entry and the headings say where, three numbers each; after a refusal every cell is empty and
+// every number of a heading is zero. Refuses 1, 2 and 3 for the lists, with entry 0, and 4 to 12 for the first entry that calls for it. Costs time in proportion to span and
+// working period of each entry, and to its row for each divisor that is tried; no memory.
 pub fn convert(table: &[i32], headings: &mut [u32], pool: &mut [i32]) -> Conversion
     ensures answer { λ r. ⌜ r ≡ answered (outcome (now (table .entry)) (length (now (headings .entry)) / 3) (length (now (pool .entry)))) ⌝ }
     ensures headings { λ r. ⌜ now (headings .exit) ≡ headingsAfter (length (now (headings .entry))) (outcome (now (table .entry)) (length (now (headings .entry)) / 3) (length (now (pool .entry)))) ⌝ }

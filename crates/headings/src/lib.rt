@@ -73,7 +73,8 @@ fn write_all(headings: &mut [Heading], m: Made)
 }
 
 // Converts a table. Answered, the pool holds the least row of each entry and the headings say where; after a refusal every cell is empty and every
-// heading is zero.
+// heading is zero. Refuses 1, 2 and 3 for the lists, with entry 0, and 4 to 12 for the first entry that calls for it. Costs time in proportion to span and working period of each
+// entry, and to its row for each divisor that is tried; no memory.
 pub fn convert(table: &[i32], headings: &mut [Heading], pool: &mut [i32]) -> Conversion
     ensures { λ r. ⌜ (r ≡ answered (outcome (now (table .entry)) (length (now (headings .entry))) (length (now (pool .entry)))))
         × (now (headings .exit) ≡ recordsAfter (length (now (headings .entry))) (outcome (now (table .entry)) (length (now (headings .entry))) (length (now (pool .entry)))))

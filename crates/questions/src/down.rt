@@ -168,8 +168,8 @@ fn parts_of(
     }
 }
 
-// The labels of g's granules that make up the granule z of h, rising, in `parts`; the rest of it is zero, and all of it after a refusal. Costs a
-// pass over each row, for check 13 and to find the granule, and a walk over the granule and the gaps of g beside it.
+// The labels of g's granules that make up the granule z of h, rising, in `parts`; the rest of it is zero, and all of it after a refusal. Refuses 13 for h and for
+// g, 14, 15, 16, 17. Costs a pass over each row, for check 13 and to find the granule, and a walk over the granule and the gaps of g beside it.
 pub fn down(
     z: i64,
     parts: &mut [i64],

@@ -42,7 +42,7 @@ pub enum Late {
     Refused(Refusal),
 }
 
-// The label of the instant t. Costs one pass over the row, for check 13.
+// The label of the instant t, or none. Refuses 13, 14. Costs one pass over the row, for check 13.
 pub fn up_instant(t: i64, cells: &[i32], period: i64, distance: i64) -> Up
     ensures { λ r. ⌜ upReply r ≡ upFromInstant (given period distance (now (cells .entry))) t ⌝ }
 {
@@ -59,8 +59,8 @@ pub fn up_instant(t: i64, cells: &[i32], period: i64, distance: i64) -> Up
     }
 }
 
-// The label of the granule of h that contains the whole granule z of g. Costs one pass over each row, for check 13, at most two more over g's,
-// to find the granule, and a walk over the granule.
+// The label of the granule of h that contains the whole granule z of g, or none. Refuses 13 for g and for h, 14, 15. Costs one pass over each row, for check 13,
+// at most two more over g's, to find the granule, and a walk over the granule.
 pub fn up_granule(
     z: i64,
     g_cells: &[i32],
@@ -100,7 +100,7 @@ pub fn up_granule(
     }
 }
 
-// Openness, mean length and mean spacing. Costs three passes over the row, one of them for check 13.
+// Openness, mean length and mean spacing. Refuses 13. Costs three passes over the row, one of them for check 13.
 pub fn figures(cells: &[i32], period: i64, distance: i64) -> Figured
     ensures { λ r. ⌜ FiguresOf (given period distance (now (cells .entry))) r ⌝ }
 {
@@ -154,8 +154,8 @@ fn judged(z: i64, d: i64, allowance: Allowance, cells: &[i32], period: i64, dist
     }
 }
 
-// Whether a delivery may be d instants late on the granule z. Costs one pass over the row, for check 13, at most two more, to find the granule, and
-// a walk over the granule.
+// Whether a delivery may be d instants late on the granule z. Refuses 13, 14, 18, 15. Costs one pass over the row, for check 13, at most two more, to find the
+// granule, and a walk over the granule.
 pub fn may_be_late(
     z: i64,
     d: i64,

@@ -1,31 +1,33 @@
 -- A granule of a that is decided.
 use mathlib.Core.Path.{_≡_}
-use mathlib.Core.Bool.{Bool, true}
+use mathlib.Core.Bool.{Bool, true, false}
 use lib.IntN.{ℤ}
 use Rattle.integers.specs.Parts.{up}
 use Rattle.calendar.specs.Meaning.{Row}
 use Rattle.calendar.specs.Algebra.{pick}
 use Rattle.calendar.specs.Lists.{any, equal}
+use Rattle.calendar.specs.Compute.{selects}
 use Rattle.selections.specs.declared.Pick.{Pick}
-use Rattle.selections.specs.declared.Picked.{Picked}
-use Rattle.selections.specs.declared.Memo.{Memo}
+use Rattle.selections.specs.declared.Decision.{Decision}
 use Rattle.selections.specs.declared.Selection.{Selection}
-use Rattle.selections.specs.Memos.{candidates, Picks, Remembers}
+use Rattle.selections.specs.declared.Selection.the-variants.{Down, Up, Intersecting}
+use Rattle.selections.specs.Memos.{candidates, flagOf, selectionOf, Remembers}
 
 -- Pick takes a's granule j for b's granule i
 abbrev pub takes : Pick → Bool → Row → Row → ℤ → ℤ → Bool
 takes p whole a b j i = any (equal j) (pick (p .x) (up (p .y)) (candidates whole a b i))
 
--- what is remembered of Pick is so
-abbrev pub Recalls : Pick → Bool → Row → Row → Picked → Type 0
-Recalls p whole a b m = m .known ≡ true → Picks p (candidates whole a b (m .of)) m
+-- the selection that picks of the granules inside, or of those that meet
+abbrev pub selectionBy : Bool → Pick → Selection
+selectionBy true p = Down p
+selectionBy false p = Intersecting p
 
--- the memo of a's granule j
-abbrev pub memoOf : ℤ → Bool → Picked → Memo
-memoOf j holds m = record { kept = record { known = true; of = j; holds = holds }; picked = m }
+abbrev pub isUp : Selection → Bool
+isUp (Down p) = false
+isUp Up = true
+isUp (Intersecting p) = false
 
--- the memo knows of a's granule j, and what it remembers is so
-pub record Decides (s : Selection) (a b : Row) (j : ℤ) (m : Memo) : Type 0 where
-  pub known : m .kept .known ≡ true
-  pub of : m .kept .of ≡ j
-  pub remembers : Remembers s a b m
+-- whether a's granule j is kept, and what is remembered of Pick is so
+pub record Decides (s : Selection) (a b : Row) (j : ℤ) (d : Decision) : Type 0 where
+  pub holds : d .holds ≡ flagOf (selects (selectionOf s) a b j)
+  pub remembers : Remembers s a b (d .picked)

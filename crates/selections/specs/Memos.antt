@@ -11,11 +11,9 @@ use Rattle.calendar.specs.Operation.{Selection as Selections}
 use Rattle.calendar.specs.Algebra.{pick}
 use Rattle.calendar.specs.Lists.{any, equal}
 use Rattle.calendar.specs.Granules.{within, meeting}
-use Rattle.calendar.specs.Compute.{selects}
 use Rattle.calendar.specs.Table.{million}
 use Rattle.selections.specs.declared.Pick.{Pick}
 use Rattle.selections.specs.declared.Picked.{Picked}
-use Rattle.selections.specs.declared.Memo.{Memo}
 use Rattle.selections.specs.declared.Selection.{Selection}
 use Rattle.selections.specs.declared.Selection.the-variants.{Down, Up, Intersecting}
 
@@ -43,20 +41,25 @@ abbrev pub candidates : Bool → Row → Row → ℤ → List ℤ
 candidates true a b i = within a b i
 candidates false a b i = meeting a b i
 
+-- a test as a number: 1 where it holds, 0 where not
+abbrev pub flagOf : Bool → ℤ
+flagOf true = pos 1
+flagOf false = pos 0
+
 -- j is among what was picked
 abbrev pub taken : Picked → ℤ → Bool
-taken m j = m .any && (leZ (m .low) j && leZ j (m .high))
+taken m j = leZ (m .low) j && leZ j (m .high)
 
--- Pick takes of l what was picked
-abbrev pub Picks : Pick → List ℤ → Picked → Type 0
-Picks p l m = (j : ℤ) → any (equal j) (pick (p .x) (up (p .y)) l) ≡ (any (equal j) l && taken m j)
+-- Pick takes of l what was picked; where anything is, the first and the last of it are in l
+pub record Picks (p : Pick) (l : List ℤ) (m : Picked) : Type 0 where
+  pub takes : (j : ℤ) → any (equal j) (pick (p .x) (up (p .y)) l) ≡ (any (equal j) l && taken m j)
+  pub ends : m .low ≤ℤ m .high → (any (equal (m .low)) l ≡ true) × (any (equal (m .high)) l ≡ true)
 
-abbrev pub PicksFor : Selection → Row → Row → Picked → Type 0
-PicksFor (Down p) a b m = Picks p (candidates true a b (m .of)) m
-PicksFor Up a b m = Unit {0}
-PicksFor (Intersecting p) a b m = Picks p (candidates false a b (m .of)) m
+-- what is remembered of Pick is so
+abbrev pub Recalls : Pick → Bool → Row → Row → Picked → Type 0
+Recalls p whole a b m = m .known ≡ pos 1 → Picks p (candidates whole a b (m .of)) m
 
--- what is remembered is so
-pub record Remembers (s : Selection) (a b : Row) (m : Memo) : Type 0 where
-  pub kept : m .kept .known ≡ true → m .kept .holds ≡ selects (selectionOf s) a b (m .kept .of)
-  pub picked : m .picked .known ≡ true → PicksFor s a b (m .picked)
+abbrev pub Remembers : Selection → Row → Row → Picked → Type 0
+Remembers (Down p) a b m = Recalls p true a b m
+Remembers Up a b m = Unit {0}
+Remembers (Intersecting p) a b m = Recalls p false a b m

@@ -10,9 +10,10 @@ use lib.Signed.{_≤ℤ_}
 use lib.ListN.{length}
 use Rattle.calendar.specs.Meaning.{Row, meant}
 use Rattle.calendar.specs.Algebra.{positions}
-use Rattle.calendar.specs.Lists.{first, last}
+use Rattle.calendar.specs.Lists.{last}
 use Rattle.calendar.specs.Granules.{inside}
 use Rattle.rows.specs.Found.{Within}
+use Rattle.selections.specs.declared.Picked.{Picked}
 use Rattle.selections.specs.declared.taking.Tally.{Tally}
 use Rattle.selections.specs.declared.taking.Candidate.{Candidate}
 use Rattle.selections.specs.declared.taking.Candidate.the-variants.{Nothing, Passed, Next, End}
@@ -22,6 +23,12 @@ pub record Begins (b : Row) (i t : ℤ) : Type 0 where
   pub near : Within (2 ^ 58) t
   pub label : meant b t ≡ some i
   pub least : (u : ℤ) → meant b u ≡ some i → t ≤ℤ u
+
+-- t is the last instant of the granule i
+pub record Ends (b : Row) (i t : ℤ) : Type 0 where
+  pub near : Within (2 ^ 58) t
+  pub label : meant b t ≡ some i
+  pub greatest : (u : ℤ) → meant b u ≡ some i → u ≤ℤ t
 
 -- a's granule j, which meets b's granule i, is in question: it lies in it, or need not
 abbrev pub counts : Bool → Row → Row → ℤ → ℤ → Bool
@@ -40,12 +47,26 @@ CandidateAt whole a b i t looked latest (Passed j) = (meant b t ≡ some i) × (
 CandidateAt whole a b i t looked latest (Next j) = (meant b t ≡ some i) × ((meant a t ≡ some j) × (New looked latest j × (counts whole a b i j ≡ true)))
 CandidateAt whole a b i t looked latest End = (k : ℤ) × (meant b t ≡ some k) × (k ≡ i → ⊥)
 
-abbrev pub filled : List ℤ → Bool
-filled [] = false
-filled (j ∷ l) = true
+abbrev pub firstOr : ℤ → List ℤ → ℤ
+firstOr d [] = d
+firstOr d (j ∷ l) = j
 
--- how many members l has, and the first and the last of those at the positions low to high
+abbrev pub lastOr : ℤ → List ℤ → ℤ
+lastOr d [] = d
+lastOr d (j ∷ l) = last (j ∷ l)
+
+-- how many members the rising list l has, and the least and the greatest of those at the positions low to high, or 1 and 0 where there are none
 unfoldable pub tallyOf : ℤ → ℤ → List ℤ → Tally
 tallyOf low high l =
     let m = positions low high (pos 1) l in
-    record { count = pos (length l); any = filled m; low = first m; high = last m }
+    record { count = pos (length l); low = firstOr (pos 1) m; high = lastOr (pos 0) m }
+
+-- the same of a falling list
+unfoldable pub tallyBackOf : ℤ → ℤ → List ℤ → Tally
+tallyBackOf low high l =
+    let m = positions low high (pos 1) l in
+    record { count = pos (length l); low = lastOr (pos 1) m; high = firstOr (pos 0) m }
+
+-- what is picked for b's granule i
+abbrev pub pickedOf : ℤ → ℤ → ℤ → Picked
+pickedOf i low high = record { known = pos 1; of = i; low = low; high = high }

@@ -2,30 +2,26 @@
 
 ghost use mathlib.Core.Path.{_≡_};
 ghost use mathlib.Core.Option.{some};
-ghost use mathlib.Core.Bool.{true};
-ghost use mathlib.Core.List.{List, [], _∷_, _++_};
+ghost use mathlib.Core.List.{List, [], _∷_, _++_, reverse};
 ghost use Prim.Native.Nat.{_^_};
 ghost use lib.IntN.{ℤ, pos};
-ghost use lib.Signed.{_≤ℤ_};
-ghost use lib.ListN.{length};
+ghost use lib.Signed.{_≤ℤ_, _<ℤ_};
 ghost use Rattle.calendar.specs.Meaning.{meant};
-ghost use Rattle.calendar.specs.Algebra.{pickStart};
 ghost use Rattle.calendar.specs.Questions.{given};
 ghost use Rattle.rows.specs.Found.{Sound, Within};
 ghost use Rattle.rows.specs.Cursor.{cursorAt};
 ghost use Rattle.walks.specs.Sides.{Stands};
 ghost use Rattle.selections.specs.Memos.{PickLimits, candidates, Picks};
-ghost use Rattle.selections.specs.Tallies.{Begins, counts, CandidateAt, tallyOf};
+ghost use Rattle.selections.specs.Tallies.{Begins, Ends, counts, CandidateAt, tallyOf, tallyBackOf, pickedOf};
 use super::Pick;
 use super::Picked;
 use rows::Cursor;
 use rows::Found;
 use walks::Place;
 
-// How many granules are in question; whether any stands at the positions asked for, and the first and the last of those.
+// How many granules are in question; of those at the positions asked for the least and the greatest, or 1 and 0 where there are none.
 struct Tally {
     count: i64,
-    any: bool,
     low: i64,
     high: i64,
 }
@@ -134,12 +130,11 @@ fn candidate_at(
 
 // The tally of no granules.
 fn empty_tally() -> Tally
-    ensures { λ r. ⌜ ((low high : ℤ) → r ≡ tallyOf low high []) ⌝ }
+    ensures { λ r. ⌜ ((low high : ℤ) → (r ≡ tallyOf low high []) × (r ≡ tallyBackOf low high [])) ⌝ }
 {
     Tally {
         count: 0,
-        any: false,
-        low: 0,
+        low: 1,
         high: 0,
     }
 }
@@ -158,20 +153,42 @@ fn counted(t: Tally, j: i64, low: i64, high: i64) -> Tally
     if high < count {
         return next;
     }
-    next.any = true;
-    next.high = j;
-    if !t.any {
+    if count == 1 || count == low {
         next.low = j;
     }
+    next.high = j;
     next
 }
 
-// The tally of the granules in question for b's granule i, whose first instant is `first`, with the positions from low to high: a walk
-// over the granule.
+// The same of a walk back: j is the one before.
+fn counted_back(t: Tally, j: i64, low: i64, high: i64) -> Tally
+    requires { ⌜ (pos 0 ≤ℤ t .count) × (t .count ≤ℤ pos (2 ^ 21)) ⌝ }
+    ensures { λ r. ⌜ ((l : List ℤ) → t ≡ tallyBackOf low high l → r ≡ tallyBackOf low high (l ++ (j ∷ []))) ⌝ }
+{
+    let count = t.count + 1;
+    let mut next = t;
+    next.count = count;
+    if count < low {
+        return next;
+    }
+    if high < count {
+        return next;
+    }
+    if count == 1 || count == low {
+        next.high = j;
+    }
+    next.low = j;
+    next
+}
+
+// The granules in question for b's granule i, whose first instant is `first`, at the positions from low to high: a walk over the granule, as far as that
+// takes.
 fn tallied(
     whole: bool,
     i: i64,
     first: i64,
+    a: Cursor,
+    b: Cursor,
     low: i64,
     high: i64,
     a_cells: &[i32],
@@ -184,25 +201,24 @@ fn tallied(
     requires { ⌜ Sound «a_period» «a_distance» (now «a_cells») ⌝ }
     requires { ⌜ Sound «b_period» «b_distance» (now «b_cells») ⌝ }
     requires { ⌜ Begins (given «b_period» «b_distance» (now «b_cells»)) i first ⌝ }
-    ensures tally { λ r. ⌜ r ≡ tallyOf low high (candidates whole (given «a_period» «a_distance» (now («a_cells» .entry))) (given «b_period» «b_distance» (now («b_cells» .entry))) i) ⌝ }
-    ensures few { λ r. ⌜ (r .count ≤ℤ pos (2 ^ 21)) ⌝ }
+    requires { ⌜ a ≡ cursorAt (given «a_period» «a_distance» (now «a_cells»)) first ⌝ }
+    requires { ⌜ b ≡ cursorAt (given «b_period» «b_distance» (now «b_cells»)) first ⌝ }
+    ensures low { λ r. ⌜ r .low ≡ tallyOf low high (candidates whole (given «a_period» «a_distance» (now («a_cells» .entry))) (given «b_period» «b_distance» (now («b_cells» .entry))) i) .low ⌝ }
+    ensures high { λ r. ⌜ r .high ≡ tallyOf low high (candidates whole (given «a_period» «a_distance» (now («a_cells» .entry))) (given «b_period» «b_distance» (now («b_cells» .entry))) i) .high ⌝ }
 {
-    let mut at = first - 1;
-    let mut a = rows::cursor_at(a_cells, a_period, a_distance, at);
-    let mut b = rows::cursor_at(b_cells, b_period, b_distance, at);
+    let mut at = first;
+    let mut own = a;
+    let mut other = b;
     let mut looked = false;
     let mut latest = i;
     let mut tally = empty_tally();
-    loop {
-        a = rows::cursor_next(a_cells, a_period, a_distance, a);
-        b = rows::cursor_next(b_cells, b_period, b_distance, b);
-        at += 1;
+    while tally.count < high {
         let candidate = candidate_at(
             whole,
             i,
             at,
-            a,
-            b,
+            own,
+            other,
             looked,
             latest,
             a_cells,
@@ -225,38 +241,139 @@ fn tallied(
             }
             Candidate::End => return tally,
         }
+        at += 1;
+        own = rows::cursor_next(a_cells, a_period, a_distance, own);
+        other = rows::cursor_next(b_cells, b_period, b_distance, other);
     }
+    tally
 }
 
-// The position at which Pick starts: x, or, where x is below zero, counted from the end.
-fn start_of(
-    pick: Pick,
+// The granules in question for b's granule i, whose last instant is `last`, at the positions from low to high, counted from the end: a walk back over
+// the granule.
+fn tallied_back(
     whole: bool,
     i: i64,
-    first: i64,
+    last: i64,
+    a: Cursor,
+    b: Cursor,
+    low: i64,
+    high: i64,
     a_cells: &[i32],
     a_period: i64,
     a_distance: i64,
     b_cells: &[i32],
     b_period: i64,
     b_distance: i64,
-) -> i64
+) -> Tally
+    requires { ⌜ Sound «a_period» «a_distance» (now «a_cells») ⌝ }
+    requires { ⌜ Sound «b_period» «b_distance» (now «b_cells») ⌝ }
+    requires { ⌜ Ends (given «b_period» «b_distance» (now «b_cells»)) i last ⌝ }
+    requires { ⌜ a ≡ cursorAt (given «a_period» «a_distance» (now «a_cells»)) last ⌝ }
+    requires { ⌜ b ≡ cursorAt (given «b_period» «b_distance» (now «b_cells»)) last ⌝ }
+    ensures low { λ r. ⌜ r .low ≡ tallyBackOf low high (reverse (candidates whole (given «a_period» «a_distance» (now («a_cells» .entry))) (given «b_period» «b_distance» (now («b_cells» .entry))) i)) .low ⌝ }
+    ensures high { λ r. ⌜ r .high ≡ tallyBackOf low high (reverse (candidates whole (given «a_period» «a_distance» (now («a_cells» .entry))) (given «b_period» «b_distance» (now («b_cells» .entry))) i)) .high ⌝ }
+{
+    let mut at = last;
+    let mut own = a;
+    let mut other = b;
+    let mut looked = false;
+    let mut latest = i;
+    let mut tally = empty_tally();
+    while tally.count < high {
+        let candidate = candidate_at(
+            whole,
+            i,
+            at,
+            own,
+            other,
+            looked,
+            latest,
+            a_cells,
+            a_period,
+            a_distance,
+            b_cells,
+            b_period,
+            b_distance,
+        );
+        match candidate {
+            Candidate::Nothing => {}
+            Candidate::Passed(j) => {
+                looked = true;
+                latest = j;
+            }
+            Candidate::Next(j) => {
+                looked = true;
+                latest = j;
+                tally = counted_back(tally, j, low, high);
+            }
+            Candidate::End => return tally,
+        }
+        at -= 1;
+        own = rows::cursor_back(a_cells, a_period, a_distance, own);
+        other = rows::cursor_back(b_cells, b_period, b_distance, other);
+    }
+    tally
+}
+
+// What Pick takes for b's granule i, between two labels.
+fn picked_of(i: i64, low: i64, high: i64) -> Picked
+    ensures { λ r. ⌜ r ≡ pickedOf i low high ⌝ }
+{
+    Picked {
+        known: 1,
+        of: i,
+        low,
+        high,
+    }
+}
+
+// What Pick takes for b's granule i, of which t is an instant, counted from the beginning: of a's granules inside it if `whole`, else of those
+// that meet it.
+fn picked_from_first(
+    pick: Pick,
+    whole: bool,
+    i: i64,
+    t: i64,
+    a: Cursor,
+    b: Cursor,
+    a_cells: &[i32],
+    a_period: i64,
+    a_distance: i64,
+    b_cells: &[i32],
+    b_period: i64,
+    b_distance: i64,
+) -> Picked
     requires { ⌜ Sound «a_period» «a_distance» (now «a_cells») ⌝ }
     requires { ⌜ Sound «b_period» «b_distance» (now «b_cells») ⌝ }
     requires { ⌜ PickLimits pick ⌝ }
-    requires { ⌜ Begins (given «b_period» «b_distance» (now «b_cells»)) i first ⌝ }
-    ensures start { λ r. ⌜ r ≡ pickStart (pick .x) (length (candidates whole (given «a_period» «a_distance» (now («a_cells» .entry))) (given «b_period» «b_distance» (now («b_cells» .entry))) i)) ⌝ }
-    ensures near { λ r. ⌜ Within (2 ^ 22) r ⌝ }
+    requires { ⌜ pos 0 <ℤ pick .x ⌝ }
+    requires { ⌜ Within (2 ^ 50) t ⌝ }
+    requires { ⌜ meant (given «b_period» «b_distance» (now «b_cells»)) t ≡ some i ⌝ }
+    requires { ⌜ a ≡ cursorAt (given «a_period» «a_distance» (now «a_cells»)) t ⌝ }
+    requires { ⌜ b ≡ cursorAt (given «b_period» «b_distance» (now «b_cells»)) t ⌝ }
+    ensures known { λ r. ⌜ (r .known ≡ pos 1) × (r .of ≡ i) ⌝ }
+    ensures picks { λ r. ⌜ Picks pick (candidates whole (given «a_period» «a_distance» (now («a_cells» .entry))) (given «b_period» «b_distance» (now («b_cells» .entry))) i) r ⌝ }
 {
-    if pick.x > 0 {
-        return pick.x;
-    }
-    let all = tallied(
+    let first = super::ends::first_of(
+        i,
+        t,
+        b,
+        a,
+        b_cells,
+        b_period,
+        b_distance,
+        a_cells,
+        a_period,
+        a_distance,
+    );
+    let tally = tallied(
         whole,
         i,
-        first,
-        1,
-        0,
+        first.at,
+        first.other,
+        first.own,
+        pick.x,
+        pick.x + pick.y - 1,
         a_cells,
         a_period,
         a_distance,
@@ -264,15 +381,73 @@ fn start_of(
         b_period,
         b_distance,
     );
-    all.count + pick.x + 1
+    picked_of(i, tally.low, tally.high)
 }
 
-// What Pick takes for b's granule i, of which t is an instant: of a's granules inside it if `whole`, else of those that meet it.
+// The same, counted from the end.
+fn picked_from_last(
+    pick: Pick,
+    whole: bool,
+    i: i64,
+    t: i64,
+    a: Cursor,
+    b: Cursor,
+    a_cells: &[i32],
+    a_period: i64,
+    a_distance: i64,
+    b_cells: &[i32],
+    b_period: i64,
+    b_distance: i64,
+) -> Picked
+    requires { ⌜ Sound «a_period» «a_distance» (now «a_cells») ⌝ }
+    requires { ⌜ Sound «b_period» «b_distance» (now «b_cells») ⌝ }
+    requires { ⌜ PickLimits pick ⌝ }
+    requires { ⌜ pick .x <ℤ pos 0 ⌝ }
+    requires { ⌜ Within (2 ^ 50) t ⌝ }
+    requires { ⌜ meant (given «b_period» «b_distance» (now «b_cells»)) t ≡ some i ⌝ }
+    requires { ⌜ a ≡ cursorAt (given «a_period» «a_distance» (now «a_cells»)) t ⌝ }
+    requires { ⌜ b ≡ cursorAt (given «b_period» «b_distance» (now «b_cells»)) t ⌝ }
+    ensures known { λ r. ⌜ (r .known ≡ pos 1) × (r .of ≡ i) ⌝ }
+    ensures picks { λ r. ⌜ Picks pick (candidates whole (given «a_period» «a_distance» (now («a_cells» .entry))) (given «b_period» «b_distance» (now («b_cells» .entry))) i) r ⌝ }
+{
+    let last = super::ends::last_of(
+        i,
+        t,
+        b,
+        a,
+        b_cells,
+        b_period,
+        b_distance,
+        a_cells,
+        a_period,
+        a_distance,
+    );
+    let tally = tallied_back(
+        whole,
+        i,
+        last.at,
+        last.other,
+        last.own,
+        1 - pick.x - pick.y,
+        0 - pick.x,
+        a_cells,
+        a_period,
+        a_distance,
+        b_cells,
+        b_period,
+        b_distance,
+    );
+    picked_of(i, tally.low, tally.high)
+}
+
+// What Pick takes for b's granule i, of which t is an instant.
 pub fn picked_at(
     pick: Pick,
     whole: bool,
     i: i64,
     t: i64,
+    a: Cursor,
+    b: Cursor,
     a_cells: &[i32],
     a_period: i64,
     a_distance: i64,
@@ -285,42 +460,40 @@ pub fn picked_at(
     requires { ⌜ PickLimits pick ⌝ }
     requires { ⌜ Within (2 ^ 50) t ⌝ }
     requires { ⌜ meant (given «b_period» «b_distance» (now «b_cells»)) t ≡ some i ⌝ }
-    ensures known { λ r. ⌜ r .known ≡ true ⌝ }
-    ensures of { λ r. ⌜ r .of ≡ i ⌝ }
+    requires { ⌜ a ≡ cursorAt (given «a_period» «a_distance» (now «a_cells»)) t ⌝ }
+    requires { ⌜ b ≡ cursorAt (given «b_period» «b_distance» (now «b_cells»)) t ⌝ }
+    ensures known { λ r. ⌜ (r .known ≡ pos 1) × (r .of ≡ i) ⌝ }
     ensures picks { λ r. ⌜ Picks pick (candidates whole (given «a_period» «a_distance» (now («a_cells» .entry))) (given «b_period» «b_distance» (now («b_cells» .entry))) i) r ⌝ }
 {
-    let first = rows::first_instant(b_cells, b_period, b_distance, t);
-    let low = start_of(
-        pick,
-        whole,
-        i,
-        first,
-        a_cells,
-        a_period,
-        a_distance,
-        b_cells,
-        b_period,
-        b_distance,
-    );
-    let high = low + pick.y - 1;
-    let tally = tallied(
-        whole,
-        i,
-        first,
-        low,
-        high,
-        a_cells,
-        a_period,
-        a_distance,
-        b_cells,
-        b_period,
-        b_distance,
-    );
-    Picked {
-        known: true,
-        of: i,
-        any: tally.any,
-        low: tally.low,
-        high: tally.high,
+    if pick.x > 0 {
+        picked_from_first(
+            pick,
+            whole,
+            i,
+            t,
+            a,
+            b,
+            a_cells,
+            a_period,
+            a_distance,
+            b_cells,
+            b_period,
+            b_distance,
+        )
+    } else {
+        picked_from_last(
+            pick,
+            whole,
+            i,
+            t,
+            a,
+            b,
+            a_cells,
+            a_period,
+            a_distance,
+            b_cells,
+            b_period,
+            b_distance,
+        )
     }
 }

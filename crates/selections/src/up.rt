@@ -1,6 +1,7 @@
 // Select-up: whether a granule of a holds a whole granule of b.
 
 ghost use mathlib.Core.Path.{_≡_};
+ghost use mathlib.Core.Bool.{true};
 ghost use mathlib.Core.Option.{some};
 ghost use Prim.Native.Nat.{_^_};
 ghost use Rattle.calendar.specs.Meaning.{meant};
@@ -90,6 +91,8 @@ fn met_at(
 fn holds_from(
     j: i64,
     first: i64,
+    a: Cursor,
+    b: Cursor,
     a_cells: &[i32],
     a_period: i64,
     a_distance: i64,
@@ -102,21 +105,20 @@ fn holds_from(
     requires { ⌜ Within (2 ^ 58) first ⌝ }
     requires { ⌜ meant (given «a_period» «a_distance» (now «a_cells»)) first ≡ some j ⌝ }
     requires { ⌜ first ≡ L.first (granule (given «a_period» «a_distance» (now «a_cells»)) j) ⌝ }
+    requires { ⌜ a ≡ cursorAt (given «a_period» «a_distance» (now «a_cells»)) first ⌝ }
+    requires { ⌜ b ≡ cursorAt (given «b_period» «b_distance» (now «b_cells»)) first ⌝ }
     ensures { λ r. ⌜ r ≡ selects select-up (given «a_period» «a_distance» (now («a_cells» .entry))) (given «b_period» «b_distance» (now («b_cells» .entry))) j ⌝ }
 {
-    let mut at = first - 1;
-    let mut a = rows::cursor_at(a_cells, a_period, a_distance, at);
-    let mut b = rows::cursor_at(b_cells, b_period, b_distance, at);
+    let mut at = first;
+    let mut own = a;
+    let mut other = b;
     let mut tested = Found::Nothing;
     loop {
-        a = rows::cursor_next(a_cells, a_period, a_distance, a);
-        b = rows::cursor_next(b_cells, b_period, b_distance, b);
-        at += 1;
         let met = met_at(
             j,
             at,
-            a,
-            b,
+            own,
+            other,
             tested,
             a_cells,
             a_period,
@@ -131,14 +133,20 @@ fn holds_from(
             Met::Inside => return true,
             Met::End => return false,
         }
+        at += 1;
+        own = rows::cursor_next(a_cells, a_period, a_distance, own);
+        other = rows::cursor_next(b_cells, b_period, b_distance, other);
     }
 }
 
 // Whether a's granule j, of which t is an instant, holds a whole granule of b: a walk over the granule looks at each granule of b
 // that it meets once.
 pub fn holds_granule(
+    fresh: bool,
     j: i64,
     t: i64,
+    a: Cursor,
+    b: Cursor,
     a_cells: &[i32],
     a_period: i64,
     a_distance: i64,
@@ -150,12 +158,29 @@ pub fn holds_granule(
     requires { ⌜ Sound «b_period» «b_distance» (now «b_cells») ⌝ }
     requires { ⌜ Within (2 ^ 50) t ⌝ }
     requires { ⌜ meant (given «a_period» «a_distance» (now «a_cells»)) t ≡ some j ⌝ }
+    requires { ⌜ a ≡ cursorAt (given «a_period» «a_distance» (now «a_cells»)) t ⌝ }
+    requires { ⌜ b ≡ cursorAt (given «b_period» «b_distance» (now «b_cells»)) t ⌝ }
+    requires { ⌜ (fresh ≡ true → t ≡ L.first (granule (given «a_period» «a_distance» (now «a_cells»)) j)) ⌝ }
     ensures { λ r. ⌜ r ≡ selects select-up (given «a_period» «a_distance» (now («a_cells» .entry))) (given «b_period» «b_distance» (now («b_cells» .entry))) j ⌝ }
 {
-    let first = rows::first_instant(a_cells, a_period, a_distance, t);
+    let start = super::ends::began(
+        fresh,
+        j,
+        t,
+        a,
+        b,
+        a_cells,
+        a_period,
+        a_distance,
+        b_cells,
+        b_period,
+        b_distance,
+    );
     holds_from(
         j,
-        first,
+        start.at,
+        start.own,
+        start.other,
         a_cells,
         a_period,
         a_distance,

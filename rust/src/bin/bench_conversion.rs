@@ -156,7 +156,7 @@ fn each_kind(
     let kin = |p, q| [BOTTOM, group(0, p), but_first(1), group(0, q), but_first(3)];
     let with_kin = |entry: Entry| [&kin(p, q)[..], &[entry]].concat();
     vec![
-        ("0 bottom, clearing the pool", vec![BOTTOM]),
+        ("0 bottom", vec![BOTTOM]),
         ("1 group", [&short[..3], &[group(2, q)]].concat()),
         ("2 shift *, with its operand", with_long([2, 3, 0, 5, 0, 0])),
         (
@@ -207,14 +207,7 @@ fn main() {
     let small = each_kind(359, 367, 181, 359, 18_700);
     let large = each_kind(1019, 1021, 509, 1013, 149_000);
     for ((name, small), (_, large)) in small.iter().zip(&large) {
-        let (small, large) = if small.len() == 1 {
-            (
-                measure_in(name, small, 1 << 17),
-                measure_in(name, large, 1 << 20),
-            )
-        } else {
-            (measure(name, small), measure(name, large))
-        };
+        let (small, large) = (measure(name, small), measure(name, large));
         println!(
             "{:<52} grows by the factor   cells {:.1}   core {:.1}   second {:.1}",
             "",
@@ -225,66 +218,74 @@ fn main() {
     }
 
     println!("\nWorst cases (the pool holds no more than two rows of 524,288 cells)");
+    for (name, entries) in worst_cases() {
+        measure(name, &entries);
+    }
+
+    // Bottom's row has one cell; what grows with the pool is the clearing.
+    println!("\nClearing a pool");
+    for cells in [1 << 17, 1 << 20] {
+        measure_in("bottom in a long pool", &[BOTTOM], cells);
+    }
+}
+
+/// What would take long if it weren't done in time linear in the row.
+fn worst_cases() -> Vec<(&'static str, Vec<Entry>)> {
     let half = group(0, 520_000);
-    measure(
-        "a slot of 520,000 instants combined with itself",
-        &[BOTTOM, half, [4, 1, 1, 0, 0, 0]],
-    );
-    measure(
-        "instants combined into a slot of 520,000",
-        &[BOTTOM, half, [4, 1, 0, 0, 0, 0]],
-    );
-    measure(
-        "a slot of 520,000 anchored at itself",
-        &[BOTTOM, half, [5, 1, 1, 0, 0, 0]],
-    );
-    measure(
-        "select-down, the first of 520,000",
-        &[BOTTOM, half, [6, 0, 1, 1, 1, 0]],
-    );
-    measure(
-        "select-down, the last 519,999 of 520,000",
-        &[BOTTOM, half, [6, 0, 1, -519_999, 1_000_000, 0]],
-    );
-    measure(
-        "select-down, long slots by themselves",
-        &[BOTTOM, half, [6, 1, 1, 1, 1, 0]],
-    );
-    measure(
-        "select-up, a slot of 520,000 by instants",
-        &[BOTTOM, half, [7, 1, 0, 0, 0, 0]],
-    );
-    measure(
-        "select-by-meeting, instants by a slot of 520,000",
-        &[BOTTOM, half, [8, 0, 1, -1, 1, 0]],
-    );
-    measure(
-        "select-by-meeting, a slot of 520,000 by instants",
-        &[BOTTOM, half, [8, 1, 0, 1, 1, 0]],
-    );
-    measure(
-        "union of long slots with themselves",
-        &[BOTTOM, half, [9, 1, 1, 0, 0, 0]],
-    );
+    let by_half = |entry: Entry| vec![BOTTOM, half, entry];
     // 500,001 coarse slots a turn and x = 1,000,000: lcm 500,001,000,000.
     let coarse = [3, 0, 0, 500_001, 1, 1];
-    measure(
-        "alter, lcm(A, x) = 500,001,000,000, too long",
-        &[BOTTOM, coarse, [3, 0, 1, 1_000_000, 1, 1]],
-    );
-    measure(
-        "alter, the same, by too much",
-        &[BOTTOM, coarse, [3, 0, 1, 1_000_000, 1, -1]],
-    );
-    measure(
-        "alter back to bottom",
-        &[BOTTOM, coarse, [3, 0, 1, 500_001, 1, -1]],
-    );
+    let altered = |x, z| vec![BOTTOM, coarse, [3, 0, 1, x, 1, z]];
     // 262,080 has very many divisors.
-    let first = [6, 0, 1, 1, 1, 0];
-    let rest = [6, 0, 1, 2, 1_000_000, 0];
-    measure(
-        "union shortened from 262,080 cells to 1",
-        &[BOTTOM, group(0, 262_080), first, rest, [9, 2, 3, 0, 0, 0]],
-    );
+    let (first, rest) = ([6, 0, 1, 1, 1, 0], [6, 0, 1, 2, 1_000_000, 0]);
+    let joined = vec![BOTTOM, group(0, 262_080), first, rest, [9, 2, 3, 0, 0, 0]];
+    vec![
+        (
+            "a slot of 520,000 instants combined with itself",
+            by_half([4, 1, 1, 0, 0, 0]),
+        ),
+        (
+            "instants combined into a slot of 520,000",
+            by_half([4, 1, 0, 0, 0, 0]),
+        ),
+        (
+            "a slot of 520,000 anchored at itself",
+            by_half([5, 1, 1, 0, 0, 0]),
+        ),
+        (
+            "select-down, the first of 520,000",
+            by_half([6, 0, 1, 1, 1, 0]),
+        ),
+        (
+            "select-down, the last 519,999 of 520,000",
+            by_half([6, 0, 1, -519_999, 1_000_000, 0]),
+        ),
+        (
+            "select-down, long slots by themselves",
+            by_half([6, 1, 1, 1, 1, 0]),
+        ),
+        (
+            "select-up, a slot of 520,000 by instants",
+            by_half([7, 1, 0, 0, 0, 0]),
+        ),
+        (
+            "select-by-meeting, instants by a slot of 520,000",
+            by_half([8, 0, 1, -1, 1, 0]),
+        ),
+        (
+            "select-by-meeting, a slot of 520,000 by instants",
+            by_half([8, 1, 0, 1, 1, 0]),
+        ),
+        (
+            "union of long slots with themselves",
+            by_half([9, 1, 1, 0, 0, 0]),
+        ),
+        (
+            "alter, lcm(A, x) = 500,001,000,000, too long",
+            altered(1_000_000, 1),
+        ),
+        ("alter, the same, by too much", altered(1_000_000, -1)),
+        ("alter back to bottom", altered(500_001, -1)),
+        ("union shortened from 262,080 cells to 1", joined),
+    ]
 }

@@ -1,20 +1,26 @@
--- `selections::decided` meets its contract: each kind of selection decides in its own way.
+-- `selections::decided` meets its contract: select-up decides in its own way, and the kinds that pick in one.
 -- Assumes nothing.
 use borrow.Author.Needs.{needs}
-use mathlib.Core.Path.{_≡_, sym, subst}
-use mathlib.Core.Bool.{true}
+use mathlib.Core.Path.{_≡_, refl, sym, _∙_, subst}
+use mathlib.Core.Bool.{Bool, true, false}
 use Prim.Native.Nat.{_^_}
 use native.Mathlib.Omega.{arith}
+use lib.IntN.{ℤ}
 use Rattle.integers.proofs.Linear.{ints, _∴_}
 use Rattle.integers.proofs.Machine.{plain}
 use Rattle.calendar.specs.Meaning.{Row}
+use Rattle.calendar.specs.Operation.Selection.{select-up}
+use Rattle.calendar.specs.Compute.{selects}
 use Rattle.calendar.specs.Questions.{given}
+use Rattle.granules.proofs.Tests.{true≢false}
 use Rattle.rows.specs.Found.{Within}
-use Rattle.selections.specs.declared.Memo.{Memo}
+use Rattle.selections.specs.declared.Pick.{Pick}
+use Rattle.selections.specs.declared.Picked.{Picked}
+use Rattle.selections.specs.declared.Decision.{Decision}
 use Rattle.selections.specs.declared.Selection.{Selection}
-use Rattle.selections.specs.declared.Selection.the-variants.{Up}
-use Rattle.selections.specs.Memos.{Picking, Remembers}
-use Rattle.selections.specs.Deciding.{Decides}
+use Rattle.selections.specs.declared.Selection.the-variants.{Down, Up, Intersecting}
+use Rattle.selections.specs.Memos.{PickLimits, Picking, flagOf, Recalls, Remembers}
+use Rattle.selections.specs.Deciding.{selectionBy, isUp, Decides}
 use Rattle.selections.proofs.Decisions.{decides}
 use Rattle.selections.proofs.decided.Statement.{statement}
 use Rattle.selections.proofs.decided.Tie as tie
@@ -25,57 +31,22 @@ a-row s = given (s .args .a-period) (s .args .a-distance) (s .args .a-cells .now
 abbrev b-row : tie.Start → Row
 b-row s = given (s .args .b-period) (s .args .b-distance) (s .args .b-cells .now)
 
-limits : (s : tie.Start) (x : Selection) → s .args .s ≡ x → Picking x
-limits s x e = subst Picking e (s .pre .1 .1 .0)
-
-remembered : (s : tie.Start) (x : Selection) → s .args .s ≡ x → Remembers x (a-row s) (b-row s) (s .args .memo)
-remembered s x e = subst (λ (y : Selection). Remembers y (a-row s) (b-row s) (s .args .memo)) e (s .pre .1 .1 .1 .0)
-
 wider : (s : tie.Start) → Within (2 ^ 50) (s .args .t)
 wider s = let l = s .pre .1 .1 .1 .1 .0 in l .0 ∴ l .1 ∴ simp ints (omega arith)
 
--- what a memo that decides is to the contract
-concluded : (s : tie.Start) (x : Selection) (r : Memo) → s .args .s ≡ x → Decides x (a-row s) (b-row s) (s .args .j) r
-    → (r .kept .known ≡ true) × ((r .kept .of ≡ s .args .j) × Remembers (s .args .s) (a-row s) (b-row s) r)
-concluded s x r e d = (d .known, (d .of, subst (λ (y : Selection). Remembers y (a-row s) (b-row s) r) (sym e) (d .remembers)))
-
--- ---- select-down
-
-enum-known-s : tie.Need-enum-known-s
-enum-known-s c = search needs
-
-decided-inside-requires : tie.Need-decided-inside-requires
-decided-inside-requires c κs =
-    let s = c .before .before .before .before in
-    let x = c .before .s .given in
-    let p = s .fits .a-period in
-    let n = s .fits .a-distance in
-    let q = s .fits .b-period in
-    let m = s .fits .b-distance in
-    let t = s .fits .t in
-    let j = s .fits .j in
-    let r = s .pre in
-    simp plain (r .0, (r .1 .0, (limits s _ (x .1), (remembered s _ (x .1) .picked, (wider s, r .1 .1 .1 .1 .1)))))
-
-returns : tie.Need-returns
-returns c =
-    let k = c .before in
-    let s = k .before .before .before .before in
-    let p = s .fits .a-period in
-    let n = s .fits .a-distance in
-    let q = s .fits .b-period in
-    let m = s .fits .b-distance in
-    let j = s .fits .j in
-    concluded s _ _ (k .before .s .given .1) (simp plain at (c .decided-inside .ensures))
+is-up-requires : tie.Need-is-up-requires
+is-up-requires c κs = search needs
 
 -- ---- select-up
 
-enum-told : tie.Need-enum-told
-enum-told c = search needs
+up-decides : (x : Selection) (a b : Row) (j : ℤ) (h : Bool) (m : Picked) (d : Decision) → isUp x ≡ true → h ≡ selects select-up a b j → (d .holds ≡ flagOf h) × (d .picked ≡ m) → Decides x a b j d
+up-decides (Down p) a b j h m d o e f = absurd (true≢false o refl)
+up-decides Up a b j h m d o e f = decides Up a b j h m d (f .0) (f .1) e tt
+up-decides (Intersecting p) a b j h m d o e f = absurd (true≢false o refl)
 
 holds-granule-requires : tie.Need-holds-granule-requires
 holds-granule-requires c κs =
-    let s = c .before .before .before in
+    let s = c .before .before in
     let p = s .fits .a-period in
     let n = s .fits .a-distance in
     let q = s .fits .b-period in
@@ -83,64 +54,88 @@ holds-granule-requires c κs =
     let t = s .fits .t in
     let j = s .fits .j in
     let r = s .pre in
-    simp plain (r .0, (r .1 .0, (wider s, r .1 .1 .1 .1 .1 .0)))
+    simp plain (r .0, (r .1 .0, (wider s, r .1 .1 .1 .1 .1)))
 
-memo-of-requires : tie.Need-memo-of-requires
-memo-of-requires c κs = search needs
+decide-requires : tie.Need-decide-requires
+decide-requires c κs = search needs
+
+returns : tie.Need-returns
+returns c =
+    let h = c .before in
+    let u = h .before .before in
+    let s = u .before in
+    let p = s .fits .a-period in
+    let n = s .fits .a-distance in
+    let q = s .fits .b-period in
+    let m = s .fits .b-distance in
+    let j = s .fits .j in
+    up-decides (s .args .s) (a-row s) (b-row s) (s .args .j) (h .holds-granule .result) (s .args .m) (c .decide .result) (sym (u .is-up .ensures) ∙ h .before .if1 .taken)
+    (simp plain at (h .holds-granule .ensures))
+    (c .decide .ensures)
+
+-- ---- the kinds that pick
+
+pick-of-requires : tie.Need-pick-of-requires
+pick-of-requires c κs = search needs
+
+is-whole-requires : tie.Need-is-whole-requires
+is-whole-requires c κs = search needs
+
+limits : (w : Bool) (p : Pick) → Picking (selectionBy w p) → PickLimits p
+limits true p l = l
+limits false p l = l
+
+recalled : (w : Bool) (p : Pick) (a b : Row) (m : Picked) → Remembers (selectionBy w p) a b m → Recalls p w a b m
+recalled true p a b m r = r
+recalled false p a b m r = r
+
+picks : (x : Selection) (w : Bool) (p : Pick) → isUp x ≡ false → ((q : Pick) → x ≡ Down q → w ≡ true) × ((q : Pick) → x ≡ Intersecting q → w ≡ false)
+    → ((q : Pick) → x ≡ Down q → p ≡ q) × ((q : Pick) → x ≡ Intersecting q → p ≡ q) → x ≡ selectionBy w p
+picks (Down q) w p o f g = rw (f .0 q refl, g .0 q refl)
+picks Up w p o f g = absurd (true≢false refl o)
+picks (Intersecting q) w p o f g = rw (f .1 q refl, g .1 q refl)
+
+selection-is : (c : tie.After-is-whole) → let s = c .before .before .before .before in s .args .s ≡ selectionBy (c .is-whole .result) (c .before .pick-of .result)
+selection-is c =
+    let o = c .before .before in
+    picks (o .before .before .args .s) (c .is-whole .result) (c .before .pick-of .result) (sym (o .before .is-up .ensures) ∙ o .if1 .left) (c .is-whole .ensures) (c .before .pick-of .ensures)
+
+judged-requires : tie.Need-judged-requires
+judged-requires c κs =
+    let s = c .before .before .before .before in
+    let p = s .fits .a-period in
+    let n = s .fits .a-distance in
+    let q = s .fits .b-period in
+    let m = s .fits .b-distance in
+    let t = s .fits .t in
+    let j = s .fits .j in
+    let r = s .pre in
+    let e = selection-is c in
+    let whole = c .is-whole .result in
+    let pick = c .before .pick-of .result in
+    let known = subst (λ (x : Selection). Remembers x (a-row s) (b-row s) (s .args .m)) e (r .1 .1 .1 .0) in
+    simp plain (r .0, (r .1 .0, (limits whole pick (subst Picking e (r .1 .1 .0)), (recalled whole pick (a-row s) (b-row s) (s .args .m) known, r .1 .1 .1 .1))))
 
 returns-2 : tie.Need-returns-2
 returns-2 c =
-    let h = c .before in
-    let s = h .before .before .before .before in
+    let w = c .before in
+    let s = w .before .before .before .before in
     let p = s .fits .a-period in
     let n = s .fits .a-distance in
     let q = s .fits .b-period in
     let m = s .fits .b-distance in
     let j = s .fits .j in
-    let holds = simp plain at (h .holds-granule .ensures) in
-    let d = decides Up (a-row s) (b-row s) (s .args .j) (h .holds-granule .result) (s .args .memo .picked) holds (λ _. tt) in
-    concluded s Up _ (h .before .enum-told .given .1) (subst (Decides Up (a-row s) (b-row s) (s .args .j)) (sym (simp plain at (c .memo-of .ensures))) d)
-
--- ---- select-intersecting
-
-enum-known-s-2 : tie.Need-enum-known-s-2
-enum-known-s-2 c = search needs
-
-decided-meeting-requires : tie.Need-decided-meeting-requires
-decided-meeting-requires c κs =
-    let s = c .before .before .before .before in
-    let x = c .before .s2 .given in
-    let p = s .fits .a-period in
-    let n = s .fits .a-distance in
-    let q = s .fits .b-period in
-    let m = s .fits .b-distance in
-    let t = s .fits .t in
-    let j = s .fits .j in
-    let r = s .pre in
-    simp plain (r .0, (r .1 .0, (limits s _ (x .1), (remembered s _ (x .1) .picked, (r .1 .1 .1 .1 .0, r .1 .1 .1 .1 .1 .0)))))
-
-returns-3 : tie.Need-returns-3
-returns-3 c =
-    let k = c .before in
-    let s = k .before .before .before .before in
-    let p = s .fits .a-period in
-    let n = s .fits .a-distance in
-    let q = s .fits .b-period in
-    let m = s .fits .b-distance in
-    let j = s .fits .j in
-    concluded s _ _ (k .before .s2 .given .1) (simp plain at (c .decided-meeting .ensures))
+    subst (λ (x : Selection). Decides x (a-row s) (b-row s) (s .args .j) (c .judged .result)) (sym (selection-is w)) (simp plain at (c .judged .ensures))
 
 pub decided-spec : {M : Type 1} → statement M
 decided-spec =
     tie.close
     (tie.spec
-    enum-known-s
-    decided-inside-requires
-    enum-told
+    is-up-requires
     holds-granule-requires
-    memo-of-requires
-    enum-known-s-2
-    decided-meeting-requires
+    decide-requires
     returns
-    returns-2
-    returns-3)
+    pick-of-requires
+    is-whole-requires
+    judged-requires
+    returns-2)

@@ -1,9 +1,8 @@
 -- `selections::taken` meets its contract: it is the same test, one part after the other.
 -- Assumes nothing.
 use borrow.Author.Needs.{sfits-of}
-use borrow.Author.Tests.{not-true, not-false}
 use mathlib.Core.Path.{_≡_}
-use mathlib.Core.Bool.{true, false}
+use mathlib.Core.Bool.{false}
 use lib.IntN.{ℤ}
 use lib.Signed.{_≤ℤ_, _<ℤ_, leZ}
 use mir.Facts.{toZ-ofZ}
@@ -15,36 +14,30 @@ use Rattle.selections.specs.Memos.{taken}
 use Rattle.selections.proofs.taken.Statement.{statement}
 use Rattle.selections.proofs.taken.Tie as tie
 
-none : (m : Picked) (j : ℤ) → m .any ≡ false → false ≡ taken m j
-none m j e = rw e
+below : (m : Picked) (j : ℤ) → j <ℤ m .low → false ≡ taken m j
+below m j h = rw (test-not-le (m .low) j .1 h)
 
-below : (m : Picked) (j : ℤ) → m .any ≡ true → j <ℤ m .low → false ≡ taken m j
-below m j e h = rw (e, test-not-le (m .low) j .1 h)
-
-from-low : (m : Picked) (j : ℤ) → m .any ≡ true → m .low ≤ℤ j → leZ j (m .high) ≡ taken m j
-from-low m j e h = rw (e, test-le (m .low) j .1 h)
+from-low : (m : Picked) (j : ℤ) → m .low ≤ℤ j → leZ j (m .high) ≡ taken m j
+from-low m j h = rw (test-le (m .low) j .1 h)
 
 returns : tie.Need-returns
-returns c = let s = c .before .before in none (s .args .m) (s .args .j) (not-true (s .args .m .any) (c .if1 .taken))
+returns c =
+    let d = c .before in
+    let s = d .before .before in
+    let l : SFits w64 (s .args .m .low) = sfits-of (d .struct-told .given .1 .1 .0 .1) in
+    let j = s .fits .j in
+    below (s .args .m) (s .args .j) (simp plain at (c .if1 .taken))
 
 returns-2 : tie.Need-returns-2
 returns-2 c =
-    let d = c .before in
-    let s = d .before .before .before .before in
-    let l : SFits w64 (s .args .m .low) = sfits-of (d .struct-told .given .1 .1 .1 .0 .1) in
-    let j = s .fits .j in
-    below (s .args .m) (s .args .j) (not-false _ (d .before .before .if1 .left)) (simp plain at (c .if2 .taken))
-
-returns-3 : tie.Need-returns-3
-returns-3 c =
     let e = c .before .before in
     let d = e .before in
-    let s = d .before .before .before .before in
-    let l : SFits w64 (s .args .m .low) = sfits-of (d .struct-told .given .1 .1 .1 .0 .1) in
-    let h : SFits w64 (s .args .m .high) = sfits-of (c .struct-told2 .given .1 .1 .1 .1 .0 .1) in
+    let s = d .before .before in
+    let l : SFits w64 (s .args .m .low) = sfits-of (d .struct-told .given .1 .1 .0 .1) in
+    let h : SFits w64 (s .args .m .high) = sfits-of (c .struct-told2 .given .1 .1 .1 .0 .1) in
     let j = s .fits .j in
-    let f = from-low (s .args .m) (s .args .j) (not-false _ (d .before .before .if1 .left)) (simp plain at (e .if2 .left)) in
+    let f = from-low (s .args .m) (s .args .j) (simp plain at (e .if1 .left)) in
     rw (toZ-ofZ j, toZ-ofZ h) f
 
 pub taken-spec : {M : Type 1} → statement M
-taken-spec = tie.close (tie.spec returns returns-2 returns-3)
+taken-spec = tie.close (tie.spec returns returns-2)

@@ -2,10 +2,11 @@
 -- Assumes nothing.
 use borrow.Author.Needs.{needs, sfits-of}
 use mathlib.Core.Path.{_≡_, sym, _∙_, ap, subst}
+use mathlib.Core.Logic.{⊎-elim}
 use mathlib.Core.Option.{some}
-use Prim.Native.Nat.{_<_, _^_}
+use Prim.Native.Nat.{suc, _^_}
 use native.Mathlib.Omega.{arith}
-use lib.IntN.{ℤ, pos, _+ℤ_, _-ℤ_}
+use lib.IntN.{ℤ, pos, _+ℤ_}
 use lib.Signed.{_≤ℤ_}
 use mir.Facts.{toZ-ofZ}
 use mir.Syntax.{w64}
@@ -19,6 +20,7 @@ use Rattle.calendar.specs.Granules.{granule}
 use Rattle.calendar.specs.Questions.{given}
 use Rattle.granules.specs.Valid.{Valid}
 use Rattle.granules.proofs.Questions.{first-at-most}
+use Rattle.rows.specs.declared.Found.{Found}
 use Rattle.rows.specs.Found.{Sound, Near, Within}
 use Rattle.rows.specs.Cursor.{cursorAt}
 use Rattle.rows.proofs.Numbers.{numbers, valid}
@@ -31,12 +33,12 @@ use Rattle.selections.proofs.up.holds_from.Statement.{statement}
 use Rattle.selections.proofs.up.holds_from.Tie as tie
 
 abbrev Inv-loop : tie.InvT-loop
-Inv-loop j first a-cells a-period a-distance b-cells b-period b-distance at₀ a₀ b₀ tested₀ at a b tested =
-    Passed (given (toZ w64 a-period) (toZ w64 a-distance) a-cells) (given (toZ w64 b-period) (toZ w64 b-distance) b-cells) (toZ w64 j) (toZ w64 first) (toZ w64 at) a b tested
+Inv-loop j first a-cells a-period a-distance b-cells b-period b-distance at₀ own₀ other₀ tested₀ at own other tested =
+    Passed (given (toZ w64 a-period) (toZ w64 a-distance) a-cells) (given (toZ w64 b-period) (toZ w64 b-distance) b-cells) (toZ w64 j) (toZ w64 first) (toZ w64 at) own other tested
 
 abbrev μ-loop : tie.MeasureT-loop
-μ-loop j first a-cells a-period a-distance b-cells b-period b-distance at₀ a₀ b₀ tested₀ at a b tested =
-    ahead (up (toZ w64 a-period)) (toZ w64 first) (toZ w64 at)
+μ-loop j first a-cells a-period a-distance b-cells b-period b-distance at₀ own₀ other₀ tested₀ at own other tested =
+    ahead (suc (up (toZ w64 a-period))) (toZ w64 first) (toZ w64 at)
 
 -- the numbers and the rows as the machine has them
 abbrev Start : Type 0
@@ -89,77 +91,43 @@ first-is s =
     let n = s .fits .a-distance in
     let j = s .fits .j in
     let t = s .fits .first in
-    simp plain (s .pre .1 .1 .1 .1)
+    simp plain (s .pre .1 .1 .1 .1 .0)
 
 least : (s : Start) (u : ℤ) → meant (a-row s) u ≡ some (J s) → T s ≤ℤ u
 least s u e = subst (λ (t : ℤ). t ≤ℤ u) (sym (first-is s)) (first-at-most (a-row s) (a-rules s) (J s) u e)
 
--- the instant before the first
-sub-at : tie.Need-sub-at Inv-loop μ-loop
-sub-at s = let l = near-first s in l .0 ∴ l .1 ∴ simp ints (omega arith)
+a-start : (s : Start) → s .args .a ≡ cursorAt (a-row s) (T s)
+a-start s =
+    let p = s .fits .a-period in
+    let n = s .fits .a-distance in
+    let t = s .fits .first in
+    simp plain (s .pre .1 .1 .1 .1 .1 .0)
 
-abbrev zeroth : Start → ℤ
-zeroth s = toZ w64 (ofZ w64 (T s -ℤ pos 1))
-
-zeroth-is : (s : Start) → zeroth s ≡ T s -ℤ pos 1
-zeroth-is s = toZ-ofZ (sub-at s)
-
-near-zeroth : (s : Start) → Near (zeroth s)
-near-zeroth s = let l = near-first s in l .0 ∴ l .1 ∴ zeroth-is s ∴ simp ints (omega arith)
-
-cursor-at-requires : tie.Need-cursor-at-requires Inv-loop μ-loop
-cursor-at-requires s κs = (a-sound s, near-zeroth s)
-
-cursor-at-requires-2 : tie.Need-cursor-at-requires-2 Inv-loop μ-loop
-cursor-at-requires-2 c κs = (b-sound (c .before), near-zeroth (c .before))
+b-start : (s : Start) → s .args .b ≡ cursorAt (b-row s) (T s)
+b-start s =
+    let p = s .fits .b-period in
+    let n = s .fits .b-distance in
+    let t = s .fits .first in
+    simp plain (s .pre .1 .1 .1 .1 .1 .1)
 
 loop-holds : tie.Need-loop-holds Inv-loop μ-loop
-loop-holds c =
-    let s = c .before .before in
-    passed-start (a-row s) (b-row s) (a-rules s) (b-rules s) (J s) (T s) (label s) (least s) _ _ _ (c .before .cursor-at .ensures) (c .cursor-at2 .ensures) (zeroth-is s)
+loop-holds s = passed-start (a-row s) (b-row s) (a-rules s) (b-rules s) (J s) (T s) (label s) (least s) _ _ (a-start s) (b-start s)
 
 -- where the walk is
-abbrev begun : tie.At-loop Inv-loop μ-loop → Start
-begun c = c .before .before .before
-
 abbrev here : tie.At-loop Inv-loop μ-loop → ℤ
 here c = toZ w64 (c .loop .at)
 
-near : (c : tie.At-loop Inv-loop μ-loop) → Near (here c) × Within (2 ^ 59) (here c +ℤ pos 1)
+near : (c : tie.At-loop Inv-loop μ-loop) → Within (2 ^ 59) (here c) × (Near (here c) × Near (here c +ℤ pos 1))
 near c =
-    let s = begun c in
+    let s = c .before in
     let l = near-first s in
     let n = numbers (toZ w64 (ofZ w64 (s .args .a-period))) (toZ w64 (ofZ w64 (s .args .a-distance))) (s .args .a-cells .now) (a-sound s) in
     l .0 ∴ l .1 ∴ n .high ∴ c .loop .inv .low ∴ c .loop .inv .high ∴ simp ints (omega arith)
 
-cursor-next-requires : tie.Need-cursor-next-requires Inv-loop μ-loop
-cursor-next-requires c κs = (a-sound (begun c), (here c, near c .0, c .loop .inv .a-cursor))
-
-cursor-next-requires-2 : tie.Need-cursor-next-requires-2 Inv-loop μ-loop
-cursor-next-requires-2 c κs = (b-sound (begun (c .before)), (here (c .before), near (c .before) .0, c .before .loop .inv .b-cursor))
-
-add-at : tie.Need-add-at Inv-loop μ-loop
-add-at c = let l = near (c .before .before) .1 in l .0 ∴ l .1 ∴ simp ints (omega arith)
-
--- the next instant, as the machine has it, with its cursors
-abbrev next : tie.After-cursor-next2 Inv-loop μ-loop → ℤ
-next c = toZ w64 (ofZ w64 (here (c .before .before) +ℤ pos 1))
-
-next-is : (c : tie.After-cursor-next2 Inv-loop μ-loop) → next c ≡ here (c .before .before) +ℤ pos 1
-next-is c = toZ-ofZ (add-at c)
-
-a-next : (c : tie.After-cursor-next2 Inv-loop μ-loop) → c .before .cursor-next .result ≡ cursorAt (a-row (begun (c .before .before))) (next c)
-a-next c = c .before .cursor-next .ensures (here (c .before .before)) (c .before .before .loop .inv .a-cursor) ∙ ap (cursorAt (a-row (begun (c .before .before)))) (sym (next-is c))
-
-b-next : (c : tie.After-cursor-next2 Inv-loop μ-loop) → c .cursor-next2 .result ≡ cursorAt (b-row (begun (c .before .before))) (next c)
-b-next c = c .cursor-next2 .ensures (here (c .before .before)) (c .before .before .loop .inv .b-cursor) ∙ ap (cursorAt (b-row (begun (c .before .before)))) (sym (next-is c))
-
--- what the next instant says to the walk
+-- ---- what the instant says to the walk
 
 met-at-requires : tie.Need-met-at-requires Inv-loop μ-loop
-met-at-requires c κs =
-    let l = c .before .before in
-    (a-sound (begun l), (b-sound (begun l), (subst (Within (2 ^ 59)) (sym (next-is c)) (near l .1), (a-next c, b-next c))))
+met-at-requires c κs = let s = c .before in (a-sound s, (b-sound s, (near c .0, (c .loop .inv .a-cursor, c .loop .inv .b-cursor))))
 
 enum-told : tie.Need-enum-told Inv-loop μ-loop
 enum-told c = search needs
@@ -173,56 +141,16 @@ enum-told-2 c = search needs
 enum-told-3 : tie.Need-enum-told-3 Inv-loop μ-loop
 enum-told-3 c = search needs
 
-abbrev at-loop : tie.After-met-at Inv-loop μ-loop → tie.At-loop Inv-loop μ-loop
-at-loop c = c .before .before .before
-
 abbrev start : tie.After-met-at Inv-loop μ-loop → Start
-start c = begun (at-loop c)
+start c = c .before .before
 
 abbrev Says : tie.After-met-at Inv-loop μ-loop → Met → Type 0
-Says c x = MetAt (a-row (start c)) (b-row (start c)) (J (start c)) (next (c .before)) (at-loop c .loop .tested) x
+Says c x = MetAt (a-row (start c)) (b-row (start c)) (J (start c)) (here (c .before)) (c .before .loop .tested) x
 
 says : (c : tie.After-met-at Inv-loop μ-loop) → Says c (c .met-at .result)
 says c = c .met-at .ensures
 
-less : (c : tie.After-met-at Inv-loop μ-loop) → let P = up (toZ w64 (ofZ w64 (start c .args .a-period))) in ahead P (T (start c)) (next (c .before)) < ahead P (T (start c)) (here (at-loop c))
-less c =
-    let n = c .before in
-    let s = start c in
-    passed-less (a-row s) (b-row s) (a-rules s) (b-rules s) (J s) (T s) (label s) (least s) _ _ _ _ _ _ _ (at-loop c .loop .inv) (a-next n) (b-next n) (next-is n)
-
--- ---- nothing new
-
-loop-less : tie.Need-loop-less Inv-loop μ-loop
-loop-less c = less (c .before .before)
-
-loop-again : tie.Need-loop-again Inv-loop μ-loop
-loop-again c =
-    let a = c .before .before in
-    let n = a .before in
-    let s = start a in
-    passed-past (a-row s) (b-row s) (a-rules s) (b-rules s) (J s) (T s) (label s) (least s) _ _ _ _ _ _ _ (at-loop a .loop .inv) (a-next n) (b-next n) (next-is n) (subst (Says a) (c .enum-told .given .1) (says a))
-
--- ---- a granule of b that does not lie in the granule
-
-loop-less-2 : tie.Need-loop-less-2 Inv-loop μ-loop
-loop-less-2 c = less (c .before .before .before)
-
-abbrev outside : tie.After-known-told Inv-loop μ-loop → ℤ
-outside c = toZ w64 (ofZ w64 (c .before .met .given .0 .0))
-
-outside-says : (c : tie.After-known-told Inv-loop μ-loop) → Says (c .before .before .before) (Outside (outside c))
-outside-says c = let a = c .before .before .before in subst (Says a) (c .before .met .given .1 ∙ ap Outside (sym (toZ-ofZ (sfits-of (c .known-told .given .0 .1))))) (says a)
-
-loop-again-2 : tie.Need-loop-again-2 Inv-loop μ-loop
-loop-again-2 c =
-    let a = c .before .before .before in
-    let n = a .before in
-    let s = start a in
-    passed-outside (a-row s) (b-row s) (a-rules s) (b-rules s) (J s) (T s) (label s) (least s) _ _ _ _ _ _ _ (at-loop a .loop .inv) (a-next n) (b-next n) (next-is n) (outside c) (outside-says c)
-
--- ---- one that does
-
+-- a granule of b that lies in the granule
 returns : tie.Need-returns Inv-loop μ-loop
 returns c =
     let a = c .before .before in
@@ -233,23 +161,73 @@ returns c =
     let m = s .fits .b-distance in
     let j = s .fits .j in
     let y = subst (Says a) (c .enum-told2 .given .1) (says a) in
-    let x = holds (a-row s) (b-row s) (a-rules s) (b-rules s) (J s) (next (a .before)) (y .1 .0) (y .0) (y .1 .1) (y .1 .2) in
+    let x = holds (a-row s) (b-row s) (a-rules s) (b-rules s) (J s) (here (a .before)) (y .1 .0) (y .0) (y .1 .1) (y .1 .2) in
     sym (simp plain at x)
 
--- ---- the granule is over
-
+-- the granule is over
 returns-2 : tie.Need-returns-2 Inv-loop μ-loop
 returns-2 c =
     let a = c .before .before in
-    let n = a .before in
     let s = start a in
     let p = s .fits .a-period in
     let d = s .fits .a-distance in
     let q = s .fits .b-period in
     let m = s .fits .b-distance in
     let j = s .fits .j in
-    let x = passed-end (a-row s) (b-row s) (a-rules s) (b-rules s) (J s) (T s) (label s) (least s) _ _ _ _ _ _ _ (at-loop a .loop .inv) (a-next n) (b-next n) (next-is n) (subst (Says a) (c .enum-told3 .given .1) (says a)) in
+    let x = passed-end (a-row s) (b-row s) (a-rules s) (b-rules s) (J s) (T s) (label s) (least s) _ _ _ _ (a .before .loop .inv) (subst (Says a) (c .enum-told3 .given .1) (says a)) in
     sym (simp plain at x)
+
+-- ---- the next instant
+
+add-at : tie.Need-add-at Inv-loop μ-loop
+add-at c = near (c .before .before) .1 .1 ∴ simp ints (omega arith)
+
+cursor-next-requires : tie.Need-cursor-next-requires Inv-loop μ-loop
+cursor-next-requires c κs = let l = c .before .before in (a-sound (l .before), (here l, near l .1 .0, l .loop .inv .a-cursor))
+
+cursor-next-requires-2 : tie.Need-cursor-next-requires-2 Inv-loop μ-loop
+cursor-next-requires-2 c κs = let l = c .before .before .before in (b-sound (l .before), (here l, near l .1 .0, l .loop .inv .b-cursor))
+
+-- as the machine has it, with its cursors
+abbrev next : tie.At-match-came Inv-loop μ-loop → ℤ
+next c = toZ w64 (ofZ w64 (here (c .before .before) +ℤ pos 1))
+
+next-is : (c : tie.At-match-came Inv-loop μ-loop) → next c ≡ here (c .before .before) +ℤ pos 1
+next-is c = toZ-ofZ (add-at c)
+
+abbrev came : tie.After-cursor-next2 Inv-loop μ-loop → tie.At-match-came Inv-loop μ-loop
+came c = c .before .before
+
+abbrev looked : tie.After-cursor-next2 Inv-loop μ-loop → tie.After-met-at Inv-loop μ-loop
+looked c = came c .before
+
+a-next : (c : tie.After-cursor-next2 Inv-loop μ-loop) → c .before .cursor-next .result ≡ cursorAt (a-row (start (looked c))) (next (came c))
+a-next c = let l = looked c .before in c .before .cursor-next .ensures (here l) (l .loop .inv .a-cursor) ∙ ap (cursorAt (a-row (l .before))) (sym (next-is (came c)))
+
+b-next : (c : tie.After-cursor-next2 Inv-loop μ-loop) → c .cursor-next2 .result ≡ cursorAt (b-row (start (looked c))) (next (came c))
+b-next c = let l = looked c .before in c .cursor-next2 .ensures (here l) (l .loop .inv .b-cursor) ∙ ap (cursorAt (b-row (l .before))) (sym (next-is (came c)))
+
+loop-less : tie.Need-loop-less Inv-loop μ-loop
+loop-less c =
+    let s = start (looked c) in
+    passed-less (a-row s) (b-row s) (a-rules s) (b-rules s) (J s) (T s) (label s) (least s) _ _ _ _ (looked c .before .loop .inv) _ _ _ (a-next c) (b-next c) (next-is (came c))
+
+-- where the walk is then, with what is tested last
+abbrev On : tie.After-cursor-next2 Inv-loop μ-loop → Found → Type 0
+On c x = let s = start (looked c) in Passed (a-row s) (b-row s) (J s) (T s) (next (came c)) (c .before .cursor-next .result) (c .cursor-next2 .result) x
+
+loop-again : tie.Need-loop-again Inv-loop μ-loop
+loop-again c =
+    let a = looked c in
+    let s = start a in
+    let p = a .before .loop .inv in
+    ⊎-elim
+    (λ w. subst (On c) (sym (w .2))
+    (passed-past (a-row s) (b-row s) (a-rules s) (b-rules s) (J s) (T s) (label s) (least s) _ _ _ _ p _ _ _ (a-next c) (b-next c) (next-is (came c)) (subst (Says a) (w .1 .given .1) (says a))))
+    (λ w. let k = toZ-ofZ (sfits-of (w .2 .given .0 .1)) in
+    subst (On c) (sym (w .3))
+    (passed-outside (a-row s) (b-row s) (a-rules s) (b-rules s) (J s) (T s) (label s) (least s) _ _ _ _ p _ _ _ (a-next c) (b-next c) (next-is (came c)) _ (subst (Says a) (w .1 .given .1 ∙ ap Outside (sym k)) (says a))))
+    (came c .match .came)
 
 pub holds-from-spec : {M : Type 1} → statement M
 holds-from-spec =
@@ -257,21 +235,16 @@ holds-from-spec =
     (tie.spec
     Inv-loop
     μ-loop
-    sub-at
-    cursor-at-requires
-    cursor-at-requires-2
     loop-holds
-    cursor-next-requires
-    cursor-next-requires-2
-    add-at
     met-at-requires
     enum-told
-    loop-less
-    loop-again
     enum-known-met
-    loop-less-2
-    loop-again-2
     enum-told-2
     returns
     enum-told-3
-    returns-2)
+    returns-2
+    add-at
+    cursor-next-requires
+    cursor-next-requires-2
+    loop-less
+    loop-again)

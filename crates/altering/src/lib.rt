@@ -1,0 +1,168 @@
+// Alter: each fine label gets the altered granule that has it.
+
+ghost use mathlib.Core.Path.{_≡_};
+ghost use mathlib.Core.Bool.{true};
+ghost use mathlib.Core.List.{_++_};
+ghost use Prim.Native.Nat.{_+_};
+ghost use lib.IntN.{pos};
+ghost use lib.ListN.{length, take, drop};
+ghost use Rattle.calendar.specs.Operation.{mapOperation};
+ghost use Rattle.calendar.specs.Questions.{given};
+ghost use Rattle.calendar.specs.Size as Size;
+ghost use Rattle.calendar.specs.Size.{turn};
+ghost use Rattle.alterations.specs.Given.{Alterable};
+ghost use Rattle.calendar.specs.Compute.{working};
+ghost use Rattle.calendar.specs.Checks.{labelsInRange};
+ghost use Rattle.operands.specs.declared.Kind.the-variants.{Alter};
+ghost use Rattle.operands.specs.Operations.{operationOf};
+ghost use Rattle.operands.specs.Stands.{rowIn};
+ghost use Rattle.filling.specs.Given.{Given};
+ghost use Rattle.filling.specs.Placed.{Placed, filledAs};
+use alterations::Alteration;
+use alterations::Repeat;
+use calendar::Calendar;
+use filling::Filled;
+use filling::Known;
+use filling::covers;
+use filling::end_of;
+use operands::Operand;
+use sizes::Turn;
+
+// Document 01's n and D.
+fn repeat_of(
+    by: Alteration,
+    span: i64,
+    a_cells: &[i32],
+    a_period: i64,
+    a_distance: i64,
+    b_cells: &[i32],
+    b_period: i64,
+    b_distance: i64,
+) -> Repeat
+    requires { ⌜ Given (Alter by) (given «a_period» «a_distance» (now «a_cells»)) (given «b_period» «b_distance» (now «b_cells»)) ⌝ }
+    requires { ⌜ span ≡ pos (Size.span (mapOperation turn (operationOf (Alter by) (given «a_period» «a_distance» (now «a_cells»)) (given «b_period» «b_distance» (now «b_cells»))))) ⌝ }
+    ensures { λ r. ⌜ Alterable by r (given «a_period» «a_distance» (now («a_cells» .entry))) (given «b_period» «b_distance» (now («b_cells» .entry))) ⌝ }
+{
+    let a = Turn {
+        period: a_period as u64,
+        distance: a_distance as u64,
+    };
+    let b = Turn {
+        period: b_period as u64,
+        distance: b_distance as u64,
+    };
+    let repeat = sizes::altering_of(a, b, by.x as u64, by.z, span as u64);
+    Repeat {
+        coarse: repeat.coarse as i64,
+        fine: repeat.fine,
+    }
+}
+
+// Fills the working row of an alteration. Up to walk.end the altered granules are found by a walk over b, and from there on by the labels written before.
+pub fn fill_alter(
+    by: Alteration,
+    span: i64,
+    at: usize,
+    period: usize,
+    pool: &mut [i32],
+    a: Operand,
+    b: Operand,
+) -> Filled
+    requires { ⌜ Given (Alter by) (rowIn (now pool) a) (rowIn (now pool) b) ⌝ }
+    requires { ⌜ Placed (Alter by) a b span at period (now pool) ⌝ }
+    ensures answer { λ r. ⌜ r ≡ filledAs (operationOf (Alter by) (rowIn (now (pool .entry)) a) (rowIn (now (pool .entry)) b)) ⌝ }
+    ensures length { λ r. ⌜ length (now (pool .exit)) ≡ length (now (pool .entry)) ⌝ }
+    ensures cells { λ r. ⌜ (labelsInRange (operationOf (Alter by) (rowIn (now (pool .entry)) a) (rowIn (now (pool .entry)) b)) ≡ true → now (pool .exit) ≡ take at (now (pool .entry)) ++ (working (operationOf (Alter by) (rowIn (now (pool .entry)) a) (rowIn (now (pool .entry)) b)) .cells ++ drop (at + period) (now (pool .entry)))) ⌝ }
+{
+    let a_start = a.start;
+    let a_end = end_of(a, at);
+    let a_period = a.period;
+    let a_distance = a.distance;
+    let b_start = b.start;
+    let b_end = end_of(b, at);
+    let b_period = b.period;
+    let b_distance = b.distance;
+    let repeat = repeat_of(
+        by,
+        span,
+        &pool[a_start..a_end],
+        a_period,
+        a_distance,
+        &pool[b_start..b_end],
+        b_period,
+        b_distance,
+    );
+    let altered = alterations::start(
+        by,
+        repeat,
+        &pool[a_start..a_end],
+        a_period,
+        a_distance,
+        &pool[b_start..b_end],
+        b_period,
+        b_distance,
+    );
+    let mut walk = altered.walk;
+    let mut behind = altered.behind;
+    let mut known = Known {
+        number: 0,
+        low: 1,
+        high: 0,
+    };
+    let mut i = a_start;
+    let mut rise: i64 = 0;
+    let mut t = 0;
+    while t < period {
+        let cell = pool[i];
+        let mut label = Calendar::EMPTY;
+        if cell != Calendar::EMPTY {
+            let j = cell as i64 + rise;
+            if !covers(known, j) {
+                if j < walk.end {
+                    walk = alterations::ahead::advance_to(
+                        by,
+                        walk,
+                        j,
+                        &pool[a_start..a_end],
+                        a_period,
+                        a_distance,
+                        &pool[b_start..b_end],
+                        b_period,
+                        b_distance,
+                    );
+                    known = Known {
+                        number: walk.label,
+                        low: j,
+                        high: walk.next - 1,
+                    };
+                } else {
+                    behind = alterations::behind::seek(
+                        behind,
+                        j - repeat.fine,
+                        &pool[a_start..a_end],
+                        a_period,
+                        a_distance,
+                    );
+                    let back = at + behind.index;
+                    known = Known {
+                        number: pool[back] as i64 + repeat.coarse,
+                        low: j,
+                        high: j,
+                    };
+                }
+                if !Calendar::in_range(known.number) {
+                    return Filled::OutOfRange;
+                }
+            }
+            label = known.number as i32;
+        }
+        pool[at + t] = label;
+        i += 1;
+        if i == a_end {
+            i = a_start;
+            rise += a_distance;
+        }
+        t += 1;
+    }
+    Filled::Labelled
+}

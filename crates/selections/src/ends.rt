@@ -1,0 +1,166 @@
+// The first and the last instant of a granule, with the cursors in its row and in another one.
+
+ghost use mathlib.Core.Path.{_≡_};
+ghost use mathlib.Core.Bool.{true};
+ghost use mathlib.Core.Option.{some};
+ghost use Prim.Native.Nat.{_^_};
+ghost use Rattle.calendar.specs.Meaning.{meant};
+ghost use Rattle.calendar.specs.Lists.{first, last};
+ghost use Rattle.calendar.specs.Granules.{granule};
+ghost use Rattle.calendar.specs.Questions.{given};
+ghost use Rattle.rows.specs.Found.{Sound, Within};
+ghost use Rattle.rows.specs.Cursor.{cursorAt};
+use rows::Cursor;
+use rows::Found;
+
+// An instant, with its cursors in the granule's row and in the other one.
+pub struct Instant {
+    pub at: i64,
+    pub own: Cursor,
+    pub other: Cursor,
+}
+
+// The first instant of g's granule j, of which t is one: back from t, past instants with no label, until another label shows.
+pub fn first_of(
+    j: i64,
+    t: i64,
+    g: Cursor,
+    h: Cursor,
+    g_cells: &[i32],
+    g_period: i64,
+    g_distance: i64,
+    h_cells: &[i32],
+    h_period: i64,
+    h_distance: i64,
+) -> Instant
+    requires { ⌜ Sound «g_period» «g_distance» (now «g_cells») ⌝ }
+    requires { ⌜ Sound «h_period» «h_distance» (now «h_cells») ⌝ }
+    requires { ⌜ Within (2 ^ 50) t ⌝ }
+    requires { ⌜ meant (given «g_period» «g_distance» (now «g_cells»)) t ≡ some j ⌝ }
+    requires { ⌜ g ≡ cursorAt (given «g_period» «g_distance» (now «g_cells»)) t ⌝ }
+    requires { ⌜ h ≡ cursorAt (given «h_period» «h_distance» (now «h_cells»)) t ⌝ }
+    ensures at { λ r. ⌜ r .at ≡ first (granule (given «g_period» «g_distance» (now («g_cells» .entry))) j) ⌝ }
+    ensures own { λ r. ⌜ r .own ≡ cursorAt (given «g_period» «g_distance» (now («g_cells» .entry))) (r .at) ⌝ }
+    ensures other { λ r. ⌜ r .other ≡ cursorAt (given «h_period» «h_distance» (now («h_cells» .entry))) (r .at) ⌝ }
+    ensures near { λ r. ⌜ Within (2 ^ 58) (r .at) ⌝ }
+{
+    let mut at = t;
+    let mut own = g;
+    let mut other = h;
+    let mut first = Instant {
+        at: t,
+        own: g,
+        other: h,
+    };
+    loop {
+        at -= 1;
+        own = rows::cursor_back(g_cells, g_period, g_distance, own);
+        other = rows::cursor_back(h_cells, h_period, h_distance, other);
+        let label = rows::cursor_label(g_cells, g_period, g_distance, own);
+        match label {
+            Found::At(k) => {
+                if k != j {
+                    return first;
+                }
+                first = Instant { at, own, other };
+            }
+            Found::Nothing => {}
+        }
+    }
+}
+
+// The last instant of g's granule j, of which t is one: on from t, in the same way.
+pub fn last_of(
+    j: i64,
+    t: i64,
+    g: Cursor,
+    h: Cursor,
+    g_cells: &[i32],
+    g_period: i64,
+    g_distance: i64,
+    h_cells: &[i32],
+    h_period: i64,
+    h_distance: i64,
+) -> Instant
+    requires { ⌜ Sound «g_period» «g_distance» (now «g_cells») ⌝ }
+    requires { ⌜ Sound «h_period» «h_distance» (now «h_cells») ⌝ }
+    requires { ⌜ Within (2 ^ 50) t ⌝ }
+    requires { ⌜ meant (given «g_period» «g_distance» (now «g_cells»)) t ≡ some j ⌝ }
+    requires { ⌜ g ≡ cursorAt (given «g_period» «g_distance» (now «g_cells»)) t ⌝ }
+    requires { ⌜ h ≡ cursorAt (given «h_period» «h_distance» (now «h_cells»)) t ⌝ }
+    ensures at { λ r. ⌜ r .at ≡ last (granule (given «g_period» «g_distance» (now («g_cells» .entry))) j) ⌝ }
+    ensures own { λ r. ⌜ r .own ≡ cursorAt (given «g_period» «g_distance» (now («g_cells» .entry))) (r .at) ⌝ }
+    ensures other { λ r. ⌜ r .other ≡ cursorAt (given «h_period» «h_distance» (now («h_cells» .entry))) (r .at) ⌝ }
+    ensures near { λ r. ⌜ Within (2 ^ 58) (r .at) ⌝ }
+{
+    let mut at = t;
+    let mut own = g;
+    let mut other = h;
+    let mut last = Instant {
+        at: t,
+        own: g,
+        other: h,
+    };
+    loop {
+        at += 1;
+        own = rows::cursor_next(g_cells, g_period, g_distance, own);
+        other = rows::cursor_next(h_cells, h_period, h_distance, other);
+        let label = rows::cursor_label(g_cells, g_period, g_distance, own);
+        match label {
+            Found::At(k) => {
+                if k != j {
+                    return last;
+                }
+                last = Instant { at, own, other };
+            }
+            Found::Nothing => {}
+        }
+    }
+}
+
+// The first instant of g's granule j: t itself, where that is known.
+pub fn began(
+    fresh: bool,
+    j: i64,
+    t: i64,
+    g: Cursor,
+    h: Cursor,
+    g_cells: &[i32],
+    g_period: i64,
+    g_distance: i64,
+    h_cells: &[i32],
+    h_period: i64,
+    h_distance: i64,
+) -> Instant
+    requires { ⌜ Sound «g_period» «g_distance» (now «g_cells») ⌝ }
+    requires { ⌜ Sound «h_period» «h_distance» (now «h_cells») ⌝ }
+    requires { ⌜ Within (2 ^ 50) t ⌝ }
+    requires { ⌜ meant (given «g_period» «g_distance» (now «g_cells»)) t ≡ some j ⌝ }
+    requires { ⌜ g ≡ cursorAt (given «g_period» «g_distance» (now «g_cells»)) t ⌝ }
+    requires { ⌜ h ≡ cursorAt (given «h_period» «h_distance» (now «h_cells»)) t ⌝ }
+    requires { ⌜ (fresh ≡ true → t ≡ first (granule (given «g_period» «g_distance» (now «g_cells»)) j)) ⌝ }
+    ensures at { λ r. ⌜ r .at ≡ first (granule (given «g_period» «g_distance» (now («g_cells» .entry))) j) ⌝ }
+    ensures own { λ r. ⌜ r .own ≡ cursorAt (given «g_period» «g_distance» (now («g_cells» .entry))) (r .at) ⌝ }
+    ensures other { λ r. ⌜ r .other ≡ cursorAt (given «h_period» «h_distance» (now («h_cells» .entry))) (r .at) ⌝ }
+    ensures near { λ r. ⌜ Within (2 ^ 58) (r .at) ⌝ }
+{
+    if fresh {
+        return Instant {
+            at: t,
+            own: g,
+            other: h,
+        };
+    }
+    first_of(
+        j,
+        t,
+        g,
+        h,
+        g_cells,
+        g_period,
+        g_distance,
+        h_cells,
+        h_period,
+        h_distance,
+    )
+}

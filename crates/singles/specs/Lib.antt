@@ -1,0 +1,3 @@
+-- The loops over one row.
+--     Counts       what renumber keeps
+pub mod Counts

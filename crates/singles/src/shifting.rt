@@ -1,0 +1,80 @@
+// Shift: each label plus x. The working row is a turn of the operand, cell for cell.
+
+ghost use mathlib.Core.Path.{_≡_};
+ghost use mathlib.Core.Bool.{true, not};
+ghost use mathlib.Core.Option.{some};
+ghost use mathlib.Core.List.{_++_};
+ghost use Prim.Native.Nat.{_+_};
+ghost use lib.IntN.{ℤ};
+ghost use lib.ListN.{length, take, drop};
+ghost use Rattle.calendar.specs.Meaning.{labelOf, raise};
+ghost use Rattle.calendar.specs.Lists.{ifLabel};
+ghost use Rattle.calendar.specs.Compute.{working};
+ghost use Rattle.calendar.specs.Checks.{labelsInRange, inRange};
+ghost use Rattle.rows.specs.Found.{Within};
+ghost use Rattle.operands.specs.declared.Kind.the-variants.{Shift};
+ghost use Rattle.operands.specs.Operations.{operationOf};
+ghost use Rattle.operands.specs.Stands.{rowIn};
+ghost use Rattle.filling.specs.Given.{Given};
+ghost use Rattle.filling.specs.Placed.{Placed, filledAs};
+use calendar::Calendar;
+use filling::Filled;
+use operands::Operand;
+
+// The cell of a label plus x, or the empty mark.
+fn shifted(cell: i32, x: i32) -> i32
+    requires { ⌜ ((j : ℤ) → labelOf cell ≡ some j → Within 1000000000 j) ⌝ }
+    requires { ⌜ Within 1000000000 x ⌝ }
+    ensures { λ r. ⌜ labelOf r ≡ raise x (labelOf cell) ⌝ }
+{
+    if cell == Calendar::EMPTY {
+        cell
+    } else {
+        cell + x
+    }
+}
+
+// Whether the cell has a label outside the limits.
+fn is_outside(cell: i32) -> bool
+    ensures { λ r. ⌜ r ≡ not (ifLabel (labelOf cell) inRange) ⌝ }
+{
+    if cell == Calendar::EMPTY {
+        return false;
+    }
+    !Calendar::in_range(cell as i64)
+}
+
+// Fills the working row of a shift.
+pub fn fill_shift(
+    x: i64,
+    span: i64,
+    at: usize,
+    period: usize,
+    pool: &mut [i32],
+    a: Operand,
+    b: Operand,
+) -> Filled
+    requires { ⌜ Given (Shift x) (rowIn (now pool) a) (rowIn (now pool) b) ⌝ }
+    requires { ⌜ Placed (Shift x) a b span at period (now pool) ⌝ }
+    ensures answer { λ r. ⌜ r ≡ filledAs (operationOf (Shift x) (rowIn (now (pool .entry)) a) (rowIn (now (pool .entry)) b)) ⌝ }
+    ensures length { λ r. ⌜ length (now (pool .exit)) ≡ length (now (pool .entry)) ⌝ }
+    ensures cells { λ r. ⌜ (labelsInRange (operationOf (Shift x) (rowIn (now (pool .entry)) a) (rowIn (now (pool .entry)) b)) ≡ true → now (pool .exit) ≡ take at (now (pool .entry)) ++ (working (operationOf (Shift x) (rowIn (now (pool .entry)) a) (rowIn (now (pool .entry)) b)) .cells ++ drop (at + period) (now (pool .entry)))) ⌝ }
+{
+    let start = a.start;
+    let by = x as i32;
+    let mut outside = false;
+    let mut t = 0;
+    while t < period {
+        let cell = shifted(pool[start + t], by);
+        pool[at + t] = cell;
+        if is_outside(cell) {
+            outside = true;
+        }
+        t += 1;
+    }
+    if outside {
+        Filled::OutOfRange
+    } else {
+        Filled::Labelled
+    }
+}

@@ -1,0 +1,62 @@
+/* A customer takes deliveries on five days of each week. From that table to slot numbers: which slot a day has, and which slots make up a week. */
+#include <stdio.h>
+
+#include "jogipahn.h"
+
+enum { ENTRIES = 5, CELLS = 64 };
+
+/* Kind, first, second, x, y, z of each entry. */
+static const int32_t table[6 * ENTRIES] = {
+    0,  0, 0, 0, 0, 0, /* 0: days, each its own label */
+    1,  0, 0, 7, 0, 0, /* 1: weeks, 7 days each */
+    6,  0, 1, 1, 5, 0, /* 2: open days, the first 5 days of each week */
+    12, 2, 0, 1, 0, 0, /* 3: slots, the open days numbered from 1 */
+    1,  3, 0, 5, 0, 0, /* 4: working weeks, 5 slots each */
+};
+
+static int32_t pool[CELLS];
+static uint32_t headings[3 * ENTRIES];
+
+/* What a question is handed: an entry's cells, their number, its period and its distance. */
+#define ROW(entry) pool + headings[3 * (entry)], headings[3 * (entry) + 1], headings[3 * (entry) + 1], headings[3 * (entry) + 2]
+
+int main(void)
+{
+    int64_t answer = jogipahn_convert(table, 6 * ENTRIES, headings, 3 * ENTRIES, pool, CELLS);
+    if (answer != 0) {
+        printf("refused with %d at entry %d\n", (int)(answer / 100), (int)(answer % 100));
+        return 1;
+    }
+    printf("slots: period %d, distance %d:", (int)headings[10], (int)headings[11]);
+    for (uint32_t i = 0; i < headings[10]; i++) {
+        int32_t cell = pool[headings[9] + i];
+        if (cell == INT32_MIN)
+            printf(" .");
+        else
+            printf(" %d", (int)cell);
+    }
+    printf("\n");
+
+    int64_t label;
+    for (int64_t day = 5; day <= 8; day++) {
+        if (jogipahn_up_instant(ROW(3), day, &label) == 1)
+            printf("day %d has slot %d\n", (int)day, (int)label);
+        else
+            printf("day %d is closed\n", (int)day);
+    }
+    if (jogipahn_up_granule(ROW(3), ROW(1), 6, &label) == 1)
+        printf("slot 6 is in week %d\n", (int)label);
+
+    int64_t parts[8];
+    int64_t count = jogipahn_down(ROW(4), ROW(3), 2, parts, 8);
+    printf("working week 2 is made up of slots");
+    for (int64_t i = 0; i < count; i++)
+        printf(" %d", (int)parts[i]);
+    printf("\n");
+    printf("week 2 is not made up of slots: refused with %d\n", (int)-jogipahn_down(ROW(1), ROW(3), 2, parts, 8));
+
+    double openness, length, spacing;
+    jogipahn_figures(ROW(3), &openness, &length, &spacing);
+    printf("open %.4f, a slot every %.4f days\n", openness, spacing);
+    return 0;
+}

@@ -1,0 +1,64 @@
+//! A customer takes deliveries on five days of each week. From that table to
+//! slot numbers: which slot a day has, and which slots make up a week.
+
+use jogipahn_compare::core;
+use jogipahn_compare::second::questions::Row;
+use jogipahn_compare::second::EMPTY;
+
+/// Kind, first, second, x, y, z of each entry.
+const TABLE: [[i32; 6]; 5] = [
+    [0, 0, 0, 0, 0, 0],  // 0: days, each its own label
+    [1, 0, 0, 7, 0, 0],  // 1: weeks, 7 days each
+    [6, 0, 1, 1, 5, 0],  // 2: open days, the first 5 days of each week
+    [12, 2, 0, 1, 0, 0], // 3: slots, the open days numbered from 1
+    [1, 3, 0, 5, 0, 0],  // 4: working weeks, 5 slots each
+];
+
+fn main() -> Result<(), u32> {
+    let mut headings = [0; 3 * TABLE.len()];
+    let mut pool = [0; 64];
+    core::convert(TABLE.as_flattened(), &mut headings, &mut pool).map_err(|(number, _)| number)?;
+    let row = |entry: usize| {
+        let [start, period, distance] = [0, 1, 2].map(|i| headings[3 * entry + i]);
+        Row {
+            cells: &pool[start as usize..(start + period) as usize],
+            period: period.into(),
+            distance: distance.into(),
+        }
+    };
+    let (week, slot, working_week) = (row(1), row(3), row(4));
+
+    print!("slots: period {}, distance {}:", slot.period, slot.distance);
+    for &cell in slot.cells {
+        match cell {
+            EMPTY => print!(" ."),
+            label => print!(" {label}"),
+        }
+    }
+    println!();
+
+    for day in 5..=8 {
+        match core::up_instant(slot, day)? {
+            Some(label) => println!("day {day} has slot {label}"),
+            None => println!("day {day} is closed"),
+        }
+    }
+    if let Some(label) = core::up_granule(slot, week, 6)? {
+        println!("slot 6 is in week {label}");
+    }
+
+    let mut parts = [0; 8];
+    let count = core::down(working_week, slot, 2, &mut parts)?;
+    print!("working week 2 is made up of slots");
+    for part in &parts[..count] {
+        print!(" {part}");
+    }
+    println!();
+    if let Err(number) = core::down(week, slot, 2, &mut parts) {
+        println!("week 2 is not made up of slots: refused with {number}");
+    }
+
+    let (openness, _, spacing) = core::figures(slot)?;
+    println!("open {openness:.4}, a slot every {spacing:.4} days");
+    Ok(())
+}
