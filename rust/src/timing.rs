@@ -1,9 +1,16 @@
 //! Measuring how long two sides take.
 
-/// The best of several measurements of each side, in seconds for one run. The
-/// sides take turns, so that whatever else the machine does meets both, and
-/// where possible the time counts that this thread has had a processor. Short
-/// runs are repeated within a measurement until it takes about a millisecond.
+use std::time::{Duration, Instant};
+
+/// How long a case is measured at the least, so that a moment in which the
+/// machine serves others too doesn't decide.
+const LEAST_TIME: Duration = Duration::from_millis(700);
+
+/// The best of at least so many measurements of each side, in seconds for one
+/// run. The sides take turns, so that whatever else the machine does meets both,
+/// and where possible the time counts that this thread has had a processor.
+/// Short runs are repeated within a measurement until it takes about a
+/// millisecond.
 pub fn best_of(
     repetitions: usize,
     mut first: impl FnMut(),
@@ -12,9 +19,12 @@ pub fn best_of(
     let first_inner = inner_repetitions(&mut first);
     let second_inner = inner_repetitions(&mut second);
     let (mut first_best, mut second_best) = (f64::INFINITY, f64::INFINITY);
-    for _ in 0..repetitions {
+    let begin = Instant::now();
+    let mut done = 0;
+    while done < repetitions || begin.elapsed() < LEAST_TIME {
         first_best = first_best.min(seconds(&mut first, first_inner));
         second_best = second_best.min(seconds(&mut second, second_inner));
+        done += 1;
     }
     (first_best, second_best)
 }

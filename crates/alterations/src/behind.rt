@@ -2,12 +2,8 @@
 
 ghost use mathlib.Core.Path.{_≡_};
 ghost use mathlib.Core.Option.{some};
-ghost use Prim.Native.Nat.{_<_};
 ghost use lib.IntN.{pos};
-ghost use lib.ListN.{length, getD};
-ghost use mir.Syntax.{w32};
-ghost use mir.Val.{SFits};
-ghost use Rattle.calendar.specs.Meaning.{meant, empty};
+ghost use Rattle.calendar.specs.Meaning.{meant};
 ghost use Rattle.calendar.specs.Questions.{given};
 ghost use Rattle.rows.specs.Found.{found, Sound};
 ghost use Rattle.rows.specs.Cursor.{cursorAt};
@@ -48,12 +44,4 @@ pub fn seek(from: Place, j: i64, cells: &[i32], period: i64, distance: i64) -> P
         cursor = rows::cursor_next(cells, period, distance, cursor);
         index += 1;
     }
-}
-
-// The label written at the index, which is a number of 32 bits.
-pub fn written_at(written: &[i32], i: usize) -> i64
-    requires { ⌜ i < length (now written) ⌝ }
-    ensures { λ r. ⌜ (r ≡ getD (now (written .entry)) i empty) × SFits w32 r ⌝ }
-{
-    written[i] as i64
 }

@@ -1,18 +1,14 @@
 // Alter, document 01's kind 3: a is the fine operand and b the coarse one.
 
 ghost use mathlib.Core.Path.{_≡_};
-ghost use mathlib.Core.Option.{some};
 ghost use lib.IntN.{pos};
-ghost use lib.ListN.{length};
 ghost use Rattle.integers.specs.Parts.{up};
-ghost use Rattle.calendar.specs.Meaning.{meant};
-ghost use Rattle.calendar.specs.Compute.{altered};
 ghost use Rattle.calendar.specs.Operation.Operation.{binary};
 ghost use Rattle.calendar.specs.Operation.Binary.{alter};
 ghost use Rattle.calendar.specs.Checks as Checks;
 ghost use Rattle.calendar.specs.Questions.{given};
 ghost use Rattle.rows.specs.Found.{Sound};
-ghost use Rattle.alterations.specs.Given.{Emptiable, Alterable, Written};
+ghost use Rattle.alterations.specs.Given.{Emptiable, Alterable};
 ghost use Rattle.alterations.specs.Follows.{Follows};
 use ahead::Walk;
 use behind::Place;
@@ -41,12 +37,6 @@ pub struct Repeat {
 pub struct Altered {
     pub walk: Walk,
     pub behind: Place,
-}
-
-// The altered granule of a fine one, and where the scan is then.
-pub struct AlteredStep {
-    pub label: i64,
-    pub next: Altered,
 }
 
 // Whether some granule is left with fewer than one fine granule: check 10.
@@ -125,58 +115,4 @@ pub fn start(
         cursor: rows::cursor_at(a_cells, a_period, a_distance, 0),
     };
     Altered { walk, behind }
-}
-
-// The altered granule of the fine one that the instant behind the written ones has.
-pub fn step(
-    by: Alteration,
-    repeat: Repeat,
-    s: Altered,
-    j: i64,
-    written: &[i32],
-    a_cells: &[i32],
-    a_period: i64,
-    a_distance: i64,
-    b_cells: &[i32],
-    b_period: i64,
-    b_distance: i64,
-) -> AlteredStep
-    requires { ⌜ Sound «a_period» «a_distance» (now «a_cells») ⌝ }
-    requires { ⌜ Sound «b_period» «b_distance» (now «b_cells») ⌝ }
-    requires { ⌜ Alterable by repeat (given «a_period» «a_distance» (now «a_cells»)) (given «b_period» «b_distance» (now «b_cells»)) ⌝ }
-    requires { ⌜ Written by (given «a_period» «a_distance» (now «a_cells»)) (given «b_period» «b_distance» (now «b_cells»)) (now written) ⌝ }
-    requires { ⌜ Follows by repeat (given «a_period» «a_distance» (now «a_cells»)) (given «b_period» «b_distance» (now «b_cells»)) (length (now written)) s ⌝ }
-    requires { ⌜ meant (given «a_period» «a_distance» (now «a_cells»)) (pos (length (now written))) ≡ some j ⌝ }
-    ensures label { λ r. ⌜ altered (given «a_period» «a_distance» (now («a_cells» .entry))) (given «b_period» «b_distance» (now («b_cells» .entry))) (up (by .x)) (up (by .y)) (by .z) j ≡ some (r .label) ⌝ }
-    ensures follows { λ r. ⌜ Follows by repeat (given «a_period» «a_distance» (now («a_cells» .entry))) (given «b_period» «b_distance» (now («b_cells» .entry))) (length (now (written .entry))) (r .next) ⌝ }
-{
-    let from = s.walk;
-    let place = s.behind;
-    if j < from.end {
-        let walk = ahead::advance_to(
-            by,
-            from,
-            j,
-            a_cells,
-            a_period,
-            a_distance,
-            b_cells,
-            b_period,
-            b_distance,
-        );
-        AlteredStep {
-            label: walk.label,
-            next: Altered {
-                walk,
-                behind: place,
-            },
-        }
-    } else {
-        let behind = behind::seek(place, j - repeat.fine, a_cells, a_period, a_distance);
-        let at = behind.index;
-        AlteredStep {
-            label: behind::written_at(written, at) + repeat.coarse,
-            next: Altered { walk: from, behind },
-        }
-    }
 }

@@ -5,6 +5,8 @@
 --     Working      the working row as it is filled in
 --     Turns        the turns of a loop that fills it in
 --     Lasts        the last label up to an instant
+--     Fresh        where a label's granule begins
+--     Decided      the granule that a loop decided last
 --     Before       a walk back to the last label before the instant 0
 pub mod Points
 pub mod Single
@@ -12,4 +14,6 @@ pub mod Cells
 pub mod Working
 pub mod Turns
 pub mod Lasts
+pub mod Fresh
+pub mod Decided
 pub mod Before

@@ -1,32 +1,13 @@
 -- What holds of a loop's state before the instant t, which is one of a working row or next to it.
 use mathlib.Core.Path.{_≡_}
-use mathlib.Core.Bool.{Bool, true, false}
 use lib.IntN.{ℤ, pos, _-ℤ_}
 use lib.Signed.{_≤ℤ_}
 use Rattle.calendar.specs.Meaning.{Row}
-use Rattle.calendar.specs.Granules.{inside}
 use Rattle.calendar.specs.Compute.{anchored}
 use Rattle.calendar.specs.Checks.{poolLimit}
 use Rattle.rows.specs.Cursor.{cursorAt}
-use Rattle.pairs.specs.declared.combining.Held.{Held}
-use Rattle.pairs.specs.declared.combining.Combining.{Combining}
 use Rattle.pairs.specs.declared.anchoring.Anchoring.{Anchoring}
 use Rattle.pairs.specs.declared.joining.Joining.{Joining}
-
--- a test as a number
-abbrev pub flagOf : Bool → ℤ
-flagOf true = pos 1
-flagOf false = pos 0
-
--- what is known of two granules
-abbrev pub Holds : Row → Row → Held → Type 0
-Holds a b h = h .known ≡ pos 1 → h .holds ≡ flagOf (inside b (h .k) a (h .i))
-
-pub record Combines (a b : Row) (t : ℤ) (s : Combining) : Type 0 where
-  pub low : pos 0 ≤ℤ t
-  pub high : t ≤ℤ pos poolLimit
-  pub cursors : (s .a ≡ cursorAt a t) × (s .b ≡ cursorAt b t)
-  pub keeps : Holds a b (s .held)
 
 pub record Anchors (a b : Row) (t : ℤ) (s : Anchoring) : Type 0 where
   pub low : pos 0 ≤ℤ t

@@ -23,7 +23,7 @@ use Rattle.granules.proofs.Calendars.{label-moved}
 use Rattle.granules.proofs.Rows.{meant-repeats}
 use Rattle.rows.specs.declared.Cursor.{Cursor}
 use Rattle.rows.specs.Cursor.{cursorAt}
-use Rattle.selections.specs.declared.taking.Tally.{Tally}
+use Rattle.selections.specs.declared.counting.Tally.{Tally}
 use Rattle.selections.specs.Tallies.{Ends, counts, New, tallyBackOf}
 use Rattle.selections.proofs.BackTallying.{back-fields}
 

@@ -18,7 +18,7 @@ use Rattle.granules.specs.Valid.{Valid}
 use Rattle.granules.proofs.Tests.{true≢false, true-or-false, not-iff}
 use Rattle.granules.proofs.Lists.{rising-cons, rising-head, rising-tail, rising-keep, rising-unique, mem-keep, lists-unique}
 use Rattle.rows.specs.declared.Cursor.{Cursor}
-use Rattle.selections.specs.declared.taking.Tally.{Tally}
+use Rattle.selections.specs.declared.counting.Tally.{Tally}
 use Rattle.selections.specs.Memos.{candidates}
 use Rattle.selections.specs.Tallies.{Ends, tallyBackOf, firstOr, lastOr}
 use Rattle.selections.proofs.Candidates.{candidates-lists}

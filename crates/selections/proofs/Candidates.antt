@@ -25,7 +25,7 @@ use Rattle.granules.proofs.Inside.{inside-iff, meeting-lists, within-lists}
 use Rattle.rows.specs.declared.Cursor.{Cursor}
 use Rattle.rows.specs.Cursor.{cursorAt}
 use Rattle.rows.proofs.Walks.{ahead}
-use Rattle.selections.specs.declared.taking.Tally.{Tally}
+use Rattle.selections.specs.declared.counting.Tally.{Tally}
 use Rattle.selections.specs.Memos.{candidates}
 use Rattle.selections.specs.Tallies.{Begins, counts, New, tallyOf}
 use Rattle.selections.proofs.Positions.{front-of, positions-front}

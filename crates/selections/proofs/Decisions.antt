@@ -1,14 +1,16 @@
 -- Which granules of b count for a granule of a: the one at any of its instants under select-down, those that meet it under select-intersecting.
 -- Assumes nothing.
 use mathlib.Core.Path.{_≡_, refl, sym, _∙_, ap, subst}
-use mathlib.Core.Logic.{_↔_, _⊎_, inl, inr}
+use mathlib.Core.Logic.{_↔_, _⊎_, inl, inr, ⊎-elim}
 use mathlib.Core.Option.{none, some}
 use mathlib.Core.Bool.{Bool, true, false}
 use mathlib.Core.List.{List, List·Memᴰ, Memᴰ·cast}
 use native.Mathlib.Omega.{arith}
 use lib.IntN.{ℤ}
+use lib.Signed.{_≤ℤ_, _<ℤ_}
 use Rattle.integers.specs.Parts.{up}
 use Rattle.integers.proofs.Linear.{ints, _∴_}
+use Rattle.integers.proofs.Order.{≤ℤ-antisym, le-or-lt}
 use Rattle.integers.proofs.Machine.{test-le}
 use Rattle.calendar.specs.Meaning.{Row, meant}
 use Rattle.calendar.specs.Algebra.{pick}
@@ -128,3 +130,11 @@ nowhere p a b v w j f =
     let s = any-iff (λ i. takes p false a b j i) (meeting b a j) .0 h in
     let m = meeting-lists b a w v j .member (s .0) .1 (s .1) in
     absurd (true≢false (s .2) (f (m .0) (s .0) (m .2) (m .1))))
+
+-- what is taken for b's granule at u begins behind j: the later instants of j are in no other granule of b
+pub later : (p : Pick) (a b : Row) (v : Valid a) (w : Valid b) (j i u : ℤ) (m : Picked) → meant b u ≡ some i → Picks p (candidates false a b i) m → m .low ≤ℤ m .high → j <ℤ m .low
+    → takes p false a b j i ≡ false → (z : ℤ) → u ≤ℤ z → Passes p a b j z
+later p a b v w j i u m label f some-picked behind not z after l own e =
+    let s = meeting-lists a b v w i .member (m .low) .1 (member-iff (m .low) (meeting a b i) .0 (f .ends some-picked .0)) in
+    let before : z ≤ℤ s .0 = ⊎-elim (λ h. absurd (v .ordered (s .0) z (m .low) j h (s .1) own ∴ behind ∴ simp ints (omega arith))) (λ h. h ∴ simp ints (omega arith)) (le-or-lt (s .0) z) in
+    ap (takes p false a b j) (≤ℤ-antisym (w .ordered z (s .0) l i before e (s .2)) (w .ordered u z i l after label e)) ∙ not

@@ -3,18 +3,19 @@
 use mathlib.Core.Path.{_≡_, refl, sym, _∙_, ap, subst}
 use mathlib.Core.Logic.{⊎-elim}
 use mathlib.Core.Option.{none, some}
-use mathlib.Core.Bool.{Bool, true, false}
+use mathlib.Core.Bool.{Bool, true, false, _&&_}
 use Prim.Native.Nat.{ℕ, _<_, _≤_, _^_}
 use native.Mathlib.Omega.{arith}
 use lib.IntN.{ℤ, pos, _+ℤ_, _-ℤ_, _*ℤ_}
-use lib.Signed.{_≤ℤ_, _<ℤ_}
+use lib.Signed.{_≤ℤ_, _<ℤ_, leZ, ltZ}
 use Rattle.integers.proofs.Linear.{ints, _∴_}
 use Rattle.integers.proofs.Order.{≤ℤ-antisym, le-or-lt, pos-up}
+use Rattle.integers.proofs.Machine.{test-lt, test-le}
 use Rattle.calendar.specs.Meaning.{Row, meant}
 use Rattle.calendar.specs.Granules.{granule}
 use Rattle.calendar.specs.Compute.{selects}
 use Rattle.granules.specs.Valid.{Valid}
-use Rattle.granules.proofs.Tests.{true-or-false, true≢false, none≢some, some-inj}
+use Rattle.granules.proofs.Tests.{true-or-false, true≢false, none≢some, some-inj, and-iff}
 use Rattle.granules.proofs.Lists.{first-least}
 use Rattle.granules.proofs.Calendars.{label-moved}
 use Rattle.granules.proofs.Rows.{meant-repeats}
@@ -26,10 +27,10 @@ use Rattle.rows.proofs.Walks.{ahead}
 use Rattle.rows.proofs.Bounds.{first-bounds}
 use Rattle.selections.specs.declared.Pick.{Pick}
 use Rattle.selections.specs.declared.Picked.{Picked}
-use Rattle.selections.specs.Memos.{selectionOf, Recalls}
+use Rattle.selections.specs.Memos.{selectionOf, candidates, Picks, Recalls}
 use Rattle.selections.specs.Deciding.{takes, selectionBy}
 use Rattle.selections.specs.Meeting.{StartsAt}
-use Rattle.selections.proofs.Decisions.{Passes, nowhere}
+use Rattle.selections.proofs.Decisions.{Passes, nowhere, later}
 
 -- t is an instant of a's granule j, and its first one, where the walk passes over all of the granule
 pub record Starts (whole : Bool) (a : Row) (j t : ℤ) : Type 0 where
@@ -159,3 +160,13 @@ module _ (p : Pick) (whole : Bool) (a b : Row) (v : Valid a) (w : Valid b) (j t 
         passes-all o =
             subst (λ (z : Bool). false ≡ selects (selectionOf (selectionBy z p)) a b j) (sym o)
             (nowhere p a b v w j (λ z. ⊎-elim (λ q i h _. absurd (other (same z q h))) (k .passed o z) (le-or-lt u z)))
+
+    -- what is taken for b's granule at u begins behind j: none of the later granules of b meets j
+    pub walk-early : whole ≡ false → (i : ℤ) → meant b u ≡ some i → takes p whole a b j i ≡ false → (n : Picked) → Picks p (candidates whole a b i) n → leZ (n .low) (n .high) && ltZ j (n .low) ≡ true
+        → false ≡ selects (selectionOf (selectionBy whole p)) a b j
+    walk-early o i e q n h r =
+        let c = and-iff (leZ (n .low) (n .high)) (ltZ j (n .low)) .0 r in
+        let h′ = subst (λ (z : Bool). Picks p (candidates z a b i) n) o h in
+        let q′ = subst (λ (z : Bool). takes p z a b j i ≡ false) o q in
+        let after = later p a b v w j i u n e h′ (test-le (n .low) (n .high) .0 (c .0)) (test-lt j (n .low) .0 (c .1)) q′ in
+        subst (λ (z : Bool). false ≡ selects (selectionOf (selectionBy z p)) a b j) (sym o) (nowhere p a b v w j (λ z. ⊎-elim (after z) (k .passed o z) (le-or-lt u z)))

@@ -9,7 +9,7 @@ use lib.Signed.{_<ℤ_}
 use lib.ListN.{length, length-append}
 use Rattle.integers.proofs.Linear.{ints, _∴_}
 use Rattle.calendar.specs.Algebra.{positions}
-use Rattle.selections.specs.declared.taking.Tally.{Tally}
+use Rattle.selections.specs.declared.counting.Tally.{Tally}
 use Rattle.selections.specs.Tallies.{firstOr, lastOr, tallyOf, tallyBackOf}
 use Rattle.selections.proofs.Positions.{asked, asked-iff, none-before, some-taken}
 

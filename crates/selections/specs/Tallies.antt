@@ -14,9 +14,9 @@ use Rattle.calendar.specs.Lists.{last}
 use Rattle.calendar.specs.Granules.{inside}
 use Rattle.rows.specs.Found.{Within}
 use Rattle.selections.specs.declared.Picked.{Picked}
-use Rattle.selections.specs.declared.taking.Tally.{Tally}
-use Rattle.selections.specs.declared.taking.Candidate.{Candidate}
-use Rattle.selections.specs.declared.taking.Candidate.the-variants.{Nothing, Passed, Next, End}
+use Rattle.selections.specs.declared.counting.Tally.{Tally}
+use Rattle.selections.specs.declared.counting.Candidate.{Candidate}
+use Rattle.selections.specs.declared.counting.Candidate.the-variants.{Nothing, Passed, Next, End}
 
 -- t is the first instant of the granule i, with room for a walk of a turn
 pub record Begins (b : Row) (i t : ℤ) : Type 0 where

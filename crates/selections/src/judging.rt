@@ -174,7 +174,7 @@ fn start_of(
 }
 
 // Whether a's granule j, of which t is an instant, is taken for a granule of b: a walk over the granule looks at each granule of b that it meets,
-// or only at the one at t, where that must hold it whole.
+// or only at the one at t, where that must hold it whole. Where what is taken begins behind the granule, it meets no further granule of b.
 pub fn judged(
     pick: Pick,
     whole: bool,
@@ -276,6 +276,9 @@ pub fn judged(
                 );
                 if is_taken || whole {
                     return super::decide(is_taken, picked);
+                }
+                if super::precedes(picked, j) {
+                    return super::decide(false, picked);
                 }
             }
         }

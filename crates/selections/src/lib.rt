@@ -5,6 +5,7 @@ ghost use mathlib.Core.Bool.{true, false, _&&_};
 ghost use mathlib.Core.Option.{some};
 ghost use Prim.Native.Nat.{_^_};
 ghost use lib.IntN.{pos};
+ghost use lib.Signed.{leZ, ltZ};
 ghost use Rattle.calendar.specs.Meaning.{meant};
 ghost use Rattle.calendar.specs.Lists.{first, equal};
 ghost use Rattle.calendar.specs.Granules.{granule};
@@ -18,6 +19,7 @@ ghost use Rattle.selections.specs.declared.Pick.{Pick};
 ghost use Rattle.selections.specs.declared.Selection.the-variants.{Down, Intersecting};
 use rows::Cursor;
 
+mod counting;
 mod ends;
 mod judging;
 mod taking;
@@ -78,6 +80,13 @@ fn taken(m: Picked, j: i64) -> bool
         return false;
     }
     j <= m.high
+}
+
+// Whether j comes before all that was picked, where anything was.
+fn precedes(m: Picked, j: i64) -> bool
+    ensures { λ r. ⌜ r ≡ leZ (m .low) (m .high) && ltZ j (m .low) ⌝ }
+{
+    if m.low <= m.high { j < m.low } else { false }
 }
 
 // A decision.

@@ -2,318 +2,19 @@
 
 ghost use mathlib.Core.Path.{_≡_};
 ghost use mathlib.Core.Option.{some};
-ghost use mathlib.Core.List.{List, [], _∷_, _++_, reverse};
 ghost use Prim.Native.Nat.{_^_};
-ghost use lib.IntN.{ℤ, pos};
-ghost use lib.Signed.{_≤ℤ_, _<ℤ_};
+ghost use lib.IntN.{pos};
+ghost use lib.Signed.{_<ℤ_};
 ghost use Rattle.calendar.specs.Meaning.{meant};
 ghost use Rattle.calendar.specs.Questions.{given};
 ghost use Rattle.rows.specs.Found.{Sound, Within};
 ghost use Rattle.rows.specs.Cursor.{cursorAt};
-ghost use Rattle.walks.specs.Sides.{Stands};
 ghost use Rattle.selections.specs.Memos.{PickLimits, candidates, Picks};
-ghost use Rattle.selections.specs.Tallies.{Begins, Ends, counts, CandidateAt, tallyOf, tallyBackOf, pickedOf};
+ghost use Rattle.selections.specs.Tallies.{pickedOf};
 use super::Pick;
 use super::Picked;
+use super::counting;
 use rows::Cursor;
-use rows::Found;
-use walks::Place;
-
-// How many granules are in question; of those at the positions asked for the least and the greatest, or 1 and 0 where there are none.
-struct Tally {
-    count: i64,
-    low: i64,
-    high: i64,
-}
-
-// What an instant says of the granules in question: none shows that was not looked at, one shows that is not in question, the next one
-// shows, or b's granule is over.
-enum Candidate {
-    Nothing,
-    Passed(i64),
-    Next(i64),
-    End,
-}
-
-// Whether a's granule at the place is in question for b's: it lies in it, or need not.
-fn counts_at(
-    whole: bool,
-    a_cells: &[i32],
-    a_period: i64,
-    a_distance: i64,
-    b_cells: &[i32],
-    b_period: i64,
-    b_distance: i64,
-    place: Place,
-) -> bool
-    requires { ⌜ Sound «a_period» «a_distance» (now «a_cells») ⌝ }
-    requires { ⌜ Sound «b_period» «b_distance» (now «b_cells») ⌝ }
-    requires { ⌜ Stands (given «a_period» «a_distance» (now «a_cells»)) (given «b_period» «b_distance» (now «b_cells»)) place ⌝ }
-    ensures { λ r. ⌜ r ≡ counts whole (given «a_period» «a_distance» (now («a_cells» .entry))) (given «b_period» «b_distance» (now («b_cells» .entry))) (place .i) (place .k) ⌝ }
-{
-    if !whole {
-        return true;
-    }
-    walks::inside_at(
-        a_cells,
-        a_period,
-        a_distance,
-        b_cells,
-        b_period,
-        b_distance,
-        place,
-    )
-}
-
-// What the instant t, with its cursors, says of the granules in question for b's granule i, which began before it: the label of a
-// looked at last is `latest`, once one is looked at.
-fn candidate_at(
-    whole: bool,
-    i: i64,
-    t: i64,
-    a: Cursor,
-    b: Cursor,
-    looked: bool,
-    latest: i64,
-    a_cells: &[i32],
-    a_period: i64,
-    a_distance: i64,
-    b_cells: &[i32],
-    b_period: i64,
-    b_distance: i64,
-) -> Candidate
-    requires { ⌜ Sound «a_period» «a_distance» (now «a_cells») ⌝ }
-    requires { ⌜ Sound «b_period» «b_distance» (now «b_cells») ⌝ }
-    requires { ⌜ Within (2 ^ 59) t ⌝ }
-    requires { ⌜ a ≡ cursorAt (given «a_period» «a_distance» (now «a_cells»)) t ⌝ }
-    requires { ⌜ b ≡ cursorAt (given «b_period» «b_distance» (now «b_cells»)) t ⌝ }
-    ensures { λ r. ⌜ CandidateAt whole (given «a_period» «a_distance» (now («a_cells» .entry))) (given «b_period» «b_distance» (now («b_cells» .entry))) i t looked latest r ⌝ }
-{
-    let own = rows::cursor_label(b_cells, b_period, b_distance, b);
-    let Found::At(k) = own else {
-        return Candidate::Nothing;
-    };
-    if k != i {
-        return Candidate::End;
-    }
-    let label = rows::cursor_label(a_cells, a_period, a_distance, a);
-    let Found::At(j) = label else {
-        return Candidate::Nothing;
-    };
-    if looked {
-        if j == latest {
-            return Candidate::Nothing;
-        }
-    }
-    let place = Place {
-        b: a,
-        k: j,
-        a: b,
-        i,
-    };
-    let in_question = counts_at(
-        whole,
-        a_cells,
-        a_period,
-        a_distance,
-        b_cells,
-        b_period,
-        b_distance,
-        place,
-    );
-    if in_question {
-        Candidate::Next(j)
-    } else {
-        Candidate::Passed(j)
-    }
-}
-
-// The tally of no granules.
-fn empty_tally() -> Tally
-    ensures { λ r. ⌜ ((low high : ℤ) → (r ≡ tallyOf low high []) × (r ≡ tallyBackOf low high [])) ⌝ }
-{
-    Tally {
-        count: 0,
-        low: 1,
-        high: 0,
-    }
-}
-
-// The tally with one granule more, j: it is the next in order.
-fn counted(t: Tally, j: i64, low: i64, high: i64) -> Tally
-    requires { ⌜ (pos 0 ≤ℤ t .count) × (t .count ≤ℤ pos (2 ^ 21)) ⌝ }
-    ensures { λ r. ⌜ ((l : List ℤ) → t ≡ tallyOf low high l → r ≡ tallyOf low high (l ++ (j ∷ []))) ⌝ }
-{
-    let count = t.count + 1;
-    let mut next = t;
-    next.count = count;
-    if count < low {
-        return next;
-    }
-    if high < count {
-        return next;
-    }
-    if count == 1 || count == low {
-        next.low = j;
-    }
-    next.high = j;
-    next
-}
-
-// The same of a walk back: j is the one before.
-fn counted_back(t: Tally, j: i64, low: i64, high: i64) -> Tally
-    requires { ⌜ (pos 0 ≤ℤ t .count) × (t .count ≤ℤ pos (2 ^ 21)) ⌝ }
-    ensures { λ r. ⌜ ((l : List ℤ) → t ≡ tallyBackOf low high l → r ≡ tallyBackOf low high (l ++ (j ∷ []))) ⌝ }
-{
-    let count = t.count + 1;
-    let mut next = t;
-    next.count = count;
-    if count < low {
-        return next;
-    }
-    if high < count {
-        return next;
-    }
-    if count == 1 || count == low {
-        next.high = j;
-    }
-    next.low = j;
-    next
-}
-
-// The granules in question for b's granule i, whose first instant is `first`, at the positions from low to high: a walk over the granule, as far as that
-// takes.
-fn tallied(
-    whole: bool,
-    i: i64,
-    first: i64,
-    a: Cursor,
-    b: Cursor,
-    low: i64,
-    high: i64,
-    a_cells: &[i32],
-    a_period: i64,
-    a_distance: i64,
-    b_cells: &[i32],
-    b_period: i64,
-    b_distance: i64,
-) -> Tally
-    requires { ⌜ Sound «a_period» «a_distance» (now «a_cells») ⌝ }
-    requires { ⌜ Sound «b_period» «b_distance» (now «b_cells») ⌝ }
-    requires { ⌜ Begins (given «b_period» «b_distance» (now «b_cells»)) i first ⌝ }
-    requires { ⌜ a ≡ cursorAt (given «a_period» «a_distance» (now «a_cells»)) first ⌝ }
-    requires { ⌜ b ≡ cursorAt (given «b_period» «b_distance» (now «b_cells»)) first ⌝ }
-    ensures low { λ r. ⌜ r .low ≡ tallyOf low high (candidates whole (given «a_period» «a_distance» (now («a_cells» .entry))) (given «b_period» «b_distance» (now («b_cells» .entry))) i) .low ⌝ }
-    ensures high { λ r. ⌜ r .high ≡ tallyOf low high (candidates whole (given «a_period» «a_distance» (now («a_cells» .entry))) (given «b_period» «b_distance» (now («b_cells» .entry))) i) .high ⌝ }
-{
-    let mut at = first;
-    let mut own = a;
-    let mut other = b;
-    let mut looked = false;
-    let mut latest = i;
-    let mut tally = empty_tally();
-    while tally.count < high {
-        let candidate = candidate_at(
-            whole,
-            i,
-            at,
-            own,
-            other,
-            looked,
-            latest,
-            a_cells,
-            a_period,
-            a_distance,
-            b_cells,
-            b_period,
-            b_distance,
-        );
-        match candidate {
-            Candidate::Nothing => {}
-            Candidate::Passed(j) => {
-                looked = true;
-                latest = j;
-            }
-            Candidate::Next(j) => {
-                looked = true;
-                latest = j;
-                tally = counted(tally, j, low, high);
-            }
-            Candidate::End => return tally,
-        }
-        at += 1;
-        own = rows::cursor_next(a_cells, a_period, a_distance, own);
-        other = rows::cursor_next(b_cells, b_period, b_distance, other);
-    }
-    tally
-}
-
-// The granules in question for b's granule i, whose last instant is `last`, at the positions from low to high, counted from the end: a walk back over
-// the granule.
-fn tallied_back(
-    whole: bool,
-    i: i64,
-    last: i64,
-    a: Cursor,
-    b: Cursor,
-    low: i64,
-    high: i64,
-    a_cells: &[i32],
-    a_period: i64,
-    a_distance: i64,
-    b_cells: &[i32],
-    b_period: i64,
-    b_distance: i64,
-) -> Tally
-    requires { ⌜ Sound «a_period» «a_distance» (now «a_cells») ⌝ }
-    requires { ⌜ Sound «b_period» «b_distance» (now «b_cells») ⌝ }
-    requires { ⌜ Ends (given «b_period» «b_distance» (now «b_cells»)) i last ⌝ }
-    requires { ⌜ a ≡ cursorAt (given «a_period» «a_distance» (now «a_cells»)) last ⌝ }
-    requires { ⌜ b ≡ cursorAt (given «b_period» «b_distance» (now «b_cells»)) last ⌝ }
-    ensures low { λ r. ⌜ r .low ≡ tallyBackOf low high (reverse (candidates whole (given «a_period» «a_distance» (now («a_cells» .entry))) (given «b_period» «b_distance» (now («b_cells» .entry))) i)) .low ⌝ }
-    ensures high { λ r. ⌜ r .high ≡ tallyBackOf low high (reverse (candidates whole (given «a_period» «a_distance» (now («a_cells» .entry))) (given «b_period» «b_distance» (now («b_cells» .entry))) i)) .high ⌝ }
-{
-    let mut at = last;
-    let mut own = a;
-    let mut other = b;
-    let mut looked = false;
-    let mut latest = i;
-    let mut tally = empty_tally();
-    while tally.count < high {
-        let candidate = candidate_at(
-            whole,
-            i,
-            at,
-            own,
-            other,
-            looked,
-            latest,
-            a_cells,
-            a_period,
-            a_distance,
-            b_cells,
-            b_period,
-            b_distance,
-        );
-        match candidate {
-            Candidate::Nothing => {}
-            Candidate::Passed(j) => {
-                looked = true;
-                latest = j;
-            }
-            Candidate::Next(j) => {
-                looked = true;
-                latest = j;
-                tally = counted_back(tally, j, low, high);
-            }
-            Candidate::End => return tally,
-        }
-        at -= 1;
-        own = rows::cursor_back(a_cells, a_period, a_distance, own);
-        other = rows::cursor_back(b_cells, b_period, b_distance, other);
-    }
-    tally
-}
 
 // What Pick takes for b's granule i, between two labels.
 fn picked_of(i: i64, low: i64, high: i64) -> Picked
@@ -366,7 +67,7 @@ fn picked_from_first(
         a_period,
         a_distance,
     );
-    let tally = tallied(
+    let tally = counting::tallied(
         whole,
         i,
         first.at,
@@ -422,7 +123,7 @@ fn picked_from_last(
         a_period,
         a_distance,
     );
-    let tally = tallied_back(
+    let tally = counting::tallied_back(
         whole,
         i,
         last.at,

@@ -36,8 +36,11 @@ module _ (a : Lent) (pool : List ℤ) (s : Sound (a .period) (a .distance) (take
   n = numbers (a .period) (a .distance) (row .cells) s
 
   -- the period is the number of cells
-  cells-are : up (a .period) ≡ a .end - a .start
+  pub cells-are : up (a .period) ≡ a .end - a .start
   cells-are = sym (n .whole) ∙ simp (length-take, length-drop) (omega arith)
+
+  period-is : a .period ≡ pos (a .end - a .start)
+  period-is = n .period-is ∙ ap pos cells-are
 
   pub first-cell : Cell a pool (a .start) (pos 0) (pos 0)
   first-cell = record {
@@ -59,19 +62,19 @@ module _ (a : Lent) (pool : List ℤ) (s : Sound (a .period) (a .distance) (take
       pub more-fits : SFits w64 (z +ℤ a .distance)
       more-fits = known .more-fits
 
-    -- the cell of the next instant, in the same turn or the next
-    pub next-cell : i + 1 < a .end → Cell a pool (i + 1) z (u +ℤ pos 1)
-    next-cell h = record {
+    -- the cell n instants on in the same turn, and the same cell in the next turn
+    pub cell-on : (n : ℕ) → i + n < a .end → Cell a pool (i + n) z (u +ℤ pos n)
+    cell-on n h = record {
       low = omega (arith, c .low);
-      is = cursor-moved (a .period) (a .distance) (row .cells) s _ u (pos 1) (pos 0) _ _ (c .is)
-          (c .low ∴ simp ints (omega arith)) (simp ints (omega arith)) (simp ints (omega arith)) (n .period-is ∴ cells-are ∴ c .low ∴ simp ints (omega arith));
+      is = cursor-moved (a .period) (a .distance) (row .cells) s _ u (pos n) (pos 0) _ _ (c .is)
+          (c .low ∴ simp ints (omega arith)) (simp ints (omega arith)) (simp ints (omega arith)) (period-is ∴ c .low ∴ simp ints (omega arith));
     }
 
-    pub next-turn : i + 1 ≡ a .end → Cell a pool (a .start) (z +ℤ a .distance) (u +ℤ pos 1)
-    next-turn h = record {
-      low = omega arith;
-      is = cursor-moved (a .period) (a .distance) (row .cells) s _ u (pos 1) (pos 1) _ _ (c .is)
-          (n .period-is ∴ cells-are ∴ c .low ∴ simp ints (omega arith)) (simp ints (omega arith)) (simp ints (omega arith)) (n .period-is ∴ n .low ∴ n .middle ∴ simp ints (omega arith));
+    pub cell-next : i < a .end → Cell a pool i (z +ℤ a .distance) (u +ℤ pos (a .end - a .start))
+    cell-next h = record {
+      low = c .low;
+      is = cursor-moved (a .period) (a .distance) (row .cells) s _ u (pos (a .end - a .start)) (pos 1) _ _ (c .is)
+          (period-is ∴ simp ints (omega arith)) (simp ints (omega arith)) (simp ints (omega arith)) (period-is ∴ c .low ∴ simp ints (omega arith));
     }
 
     -- the label of the instant, by the cell of a pool in which the row stands as well

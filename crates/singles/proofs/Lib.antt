@@ -10,6 +10,7 @@
 --     Cursors      the cursor of an instant, as a loop over a pool holds it
 --     Ends         the working row has a label
 --     Groups       the labels of one group
+--     Turned       a turn of group
 pub mod Instants
 pub mod Shifts
 pub mod Numbers
@@ -21,3 +22,4 @@ pub mod Renumbers
 pub mod Cursors
 pub mod Ends
 pub mod Groups
+pub mod Turned

@@ -1,9 +1,10 @@
 // Group: each label over x, rounded up.
 
 ghost use mathlib.Core.Path.{_≡_};
-ghost use mathlib.Core.Bool.{true};
+ghost use mathlib.Core.Bool.{true, false};
+ghost use mathlib.Core.Option.{some};
 ghost use mathlib.Core.List.{_++_};
-ghost use Prim.Native.Nat.{_+_, _^_};
+ghost use Prim.Native.Nat.{ℕ, _+_, _^_, _≤_, _<_};
 ghost use lib.IntN.{ℤ, pos};
 ghost use lib.Signed.{_≤ℤ_};
 ghost use lib.ListN.{length, take, drop};
@@ -11,13 +12,14 @@ ghost use Rattle.integers.specs.Parts.{up};
 ghost use Rattle.integers.specs.Floor.{ceilDiv};
 ghost use Rattle.calendar.specs.Table.{million};
 ghost use Rattle.calendar.specs.Compute.{working};
-ghost use Rattle.calendar.specs.Checks.{labelsInRange};
+ghost use Rattle.calendar.specs.Checks.{inRange, labelsInRange, poolLimit};
 ghost use Rattle.rows.specs.Found.{Within};
 ghost use Rattle.operands.specs.declared.Kind.the-variants.{Group};
 ghost use Rattle.operands.specs.Operations.{operationOf};
 ghost use Rattle.operands.specs.Stands.{rowIn};
 ghost use Rattle.filling.specs.Given.{Given};
 ghost use Rattle.filling.specs.Placed.{Placed, filledAs};
+ghost use Rattle.singles.specs.Grouped.{Knows, Small, Grouped, groupAt};
 use calendar::Calendar;
 use filling::Filled;
 use filling::Known;
@@ -41,6 +43,46 @@ fn group_of(x: i64, j: i64) -> Known
     }
 }
 
+// Fills the `count` cells from `to` on with the groups of the labels of one turn of the operand, whose cells stand from `start` on. If a group
+// is outside the limits it is the answer's number, and the cells from there on are left as they are.
+fn fill_turn(
+    x: i64,
+    rise: i64,
+    from: Known,
+    start: usize,
+    to: usize,
+    count: usize,
+    pool: &mut [i32],
+) -> Known
+    requires { ⌜ (pos 1 ≤ℤ x) × (x ≤ℤ million) ⌝ }
+    requires { ⌜ Knows x from ⌝ }
+    requires { ⌜ (start + count ≤ to) × (to + count ≤ length (now pool)) × (length (now pool) ≤ poolLimit) ⌝ }
+    requires { ⌜ Small rise start count (now pool) ⌝ }
+    ensures length { λ r. ⌜ length (now (pool .exit)) ≡ length (now (pool .entry)) ⌝ }
+    ensures inside { λ r. ⌜ (inRange (r .number) ≡ true → Knows x r × Grouped x rise start to (now (pool .entry)) (now (pool .exit)) count) ⌝ }
+    ensures outside { λ r. ⌜ (inRange (r .number) ≡ false → (i : ℕ) × (i < count) × (some (r .number) ≡ groupAt x rise start (now (pool .entry)) i)) ⌝ }
+{
+    let mut known = from;
+    let mut i = 0;
+    while i < count {
+        let cell = pool[start + i];
+        let mut label = Calendar::EMPTY;
+        if cell != Calendar::EMPTY {
+            let j = cell as i64 + rise;
+            if !covers(known, j) {
+                known = group_of(x, j);
+                if !Calendar::in_range(known.number) {
+                    return known;
+                }
+            }
+            label = known.number as i32;
+        }
+        pool[to + i] = label;
+        i += 1;
+    }
+    known
+}
+
 // Fills the working row of a group, turn after turn of the operand.
 pub fn fill_group(
     x: i64,
@@ -59,8 +101,8 @@ pub fn fill_group(
 {
     let start = a.start;
     let end = end_of(a, at);
+    let count = end - start;
     let a_distance = a.distance;
-    let mut i = start;
     let mut rise: i64 = 0;
     let mut known = Known {
         number: 0,
@@ -69,25 +111,12 @@ pub fn fill_group(
     };
     let mut t = 0;
     while t < period {
-        let cell = pool[i];
-        let mut label = Calendar::EMPTY;
-        if cell != Calendar::EMPTY {
-            let j = cell as i64 + rise;
-            if !covers(known, j) {
-                known = group_of(x, j);
-                if !Calendar::in_range(known.number) {
-                    return Filled::OutOfRange;
-                }
-            }
-            label = known.number as i32;
+        known = fill_turn(x, rise, known, start, at + t, count, &mut *pool);
+        if !Calendar::in_range(known.number) {
+            return Filled::OutOfRange;
         }
-        pool[at + t] = label;
-        i += 1;
-        if i == end {
-            i = start;
-            rise += a_distance;
-        }
-        t += 1;
+        rise += a_distance;
+        t += count;
     }
     Filled::Labelled
 }

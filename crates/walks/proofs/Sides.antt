@@ -1,6 +1,6 @@
 -- The granule of a place lies in the other from the place on, and up to it.
 -- Assumes nothing.
-use mathlib.Core.Path.{_≡_}
+use mathlib.Core.Path.{_≡_, sym, subst}
 use mathlib.Core.Logic.{_↔_, ⊎-elim, ⊎-map}
 use mathlib.Core.Option.{some}
 use mathlib.Core.Bool.{Bool, true, false, _&&_, _||_}
@@ -9,11 +9,11 @@ use lib.Signed.{_≤ℤ_, ltZ}
 use Rattle.integers.proofs.Machine.{test-not-lt}
 use Rattle.integers.proofs.Order.{<ℤ→≤ℤ, le-or-lt}
 use Rattle.calendar.specs.Meaning.{Row, meant}
-use Rattle.calendar.specs.Lists.{all, is}
+use Rattle.calendar.specs.Lists.{all, is, first}
 use Rattle.calendar.specs.Granules.{granule, inside}
 use Rattle.granules.specs.Valid.{Valid}
 use Rattle.granules.proofs.Tests.{true-or-false, true≢false, and-iff, or-iff, test-ext, is-iff}
-use Rattle.granules.proofs.Lists.{all-iff}
+use Rattle.granules.proofs.Lists.{all-iff, first-least}
 use Rattle.granules.proofs.Granule.{granule-lists}
 use Rattle.granules.proofs.Inside.{inside-iff}
 use Rattle.walks.specs.declared.Place.{Place}
@@ -54,3 +54,12 @@ module _ (b a : Row) (v : Valid b) (p : Place) where
       test-ext
       (λ e. w .1 (λ u l. ⊎-elim (λ h. from-iff .0 (y .0 e .0) u h l) (λ h. up-to-iff .0 (y .0 e .1) u (<ℤ→≤ℤ h) l) (le-or-lt (at b p) u)))
       (λ e. y .1 (from-iff .1 (λ u _. w .0 e u), up-to-iff .1 (λ u _. w .0 e u)))
+
+  -- at the granule's first instant there is one side
+  pub from-first : at b p ≡ first (granule b (p .k)) → insideFrom b a p ≡ inside b (p .k) a (p .i)
+  from-first e =
+      let w = inside-iff b a v (p .k) (p .i) in
+      let g = granule-lists b v (p .k) in
+      test-ext
+      (λ h. w .1 (λ u l. from-iff .0 h u (subst (λ (z : ℤ). z ≤ℤ u) (sym e) (first-least u (granule b (p .k)) (g .rising) (g .member u .0 l) .1)) l))
+      (λ h. from-iff .1 (λ u _. w .0 h u))

@@ -4,13 +4,13 @@ ghost use mathlib.Core.Path.{_≡_};
 ghost use mathlib.Core.Option.{some};
 ghost use lib.IntN.{ℤ};
 ghost use Rattle.calendar.specs.Meaning.{meant};
-ghost use Rattle.calendar.specs.Lists.{is};
-ghost use Rattle.calendar.specs.Granules.{inside};
+ghost use Rattle.calendar.specs.Lists.{is, first};
+ghost use Rattle.calendar.specs.Granules.{granule, inside};
 ghost use Rattle.calendar.specs.Questions.{given, holder};
 ghost use Rattle.rows.specs.Found.{found, Sound, Labelled};
 ghost use Rattle.rows.specs.Cursor.{cursorAt, Standing};
 ghost use Rattle.walks.specs.Sides.{Stands, insideFrom, insideUpTo};
-ghost use Rattle.walks.specs.Places.{Shown, Beside, stepAt};
+ghost use Rattle.walks.specs.Places.{at, Shown, Beside, stepAt};
 use rows::Cursor;
 use rows::Found;
 
@@ -191,6 +191,33 @@ pub fn inside_at(
             a_distance,
             from,
         )
+}
+
+// Whether b's granule at the place, which is the granule's first instant, lies in a's.
+pub fn inside_from_first(
+    b_cells: &[i32],
+    b_period: i64,
+    b_distance: i64,
+    a_cells: &[i32],
+    a_period: i64,
+    a_distance: i64,
+    from: Place,
+) -> bool
+    requires { ⌜ Sound «b_period» «b_distance» (now «b_cells») ⌝ }
+    requires { ⌜ Sound «a_period» «a_distance» (now «a_cells») ⌝ }
+    requires { ⌜ Stands (given «b_period» «b_distance» (now «b_cells»)) (given «a_period» «a_distance» (now «a_cells»)) from ⌝ }
+    requires { ⌜ at (given «b_period» «b_distance» (now «b_cells»)) from ≡ first (granule (given «b_period» «b_distance» (now «b_cells»)) (from .k)) ⌝ }
+    ensures whole { λ r. ⌜ r ≡ inside (given «b_period» «b_distance» (now («b_cells» .entry))) (from .k) (given «a_period» «a_distance» (now («a_cells» .entry))) (from .i) ⌝ }
+{
+    inside_forward(
+        b_cells,
+        b_period,
+        b_distance,
+        a_cells,
+        a_period,
+        a_distance,
+        from,
+    )
 }
 
 // Whether b's granule of t lies in a's.

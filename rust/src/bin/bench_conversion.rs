@@ -187,7 +187,7 @@ fn each_kind(
 
 fn main() {
     println!(
-        "Best of {REPETITIONS}. Both sides convert the same table into lists of their own, which"
+        "Best of {REPETITIONS} or more. Both sides convert the same table into lists of their own, which"
     );
     println!("aren't cleared between runs on either side; each run writes every cell and heading.");
 

@@ -106,7 +106,7 @@ fn down(name: &str, h: Row, g: Row, z: i64, most: usize) {
 }
 
 fn main() {
-    println!("Best of {REPETITIONS}; each question tests its rows by rule 13 first.");
+    println!("Best of {REPETITIONS} or more; each question tests its rows by rule 13 first.");
     println!(
         "The list of parts is as long as needed and not cleared between runs, on either side."
     );

@@ -14,8 +14,9 @@ use Rattle.granules.proofs.Tests.{true≢false}
 use Rattle.rows.specs.Found.{found}
 use Rattle.rows.specs.Cursor.{Standing}
 use Rattle.filling.proofs.Turns.{turn-instant, turn-out, turn-done}
-use Rattle.selecting.proofs.Chosen.{recalls-none, knows-next}
-use Rattle.selecting.proofs.fill_select.Proof.Turning.{Inv-loop, μ-loop, by, old, a-row, b-row, start, as-filled, a-sound, b-sound, a-valid, a-part, b-part, near-zero, base, instant, turn-of, same, index, near, kept, turn-at, loop-at, label, label-fits, label-some, fresh-at, Asks, chosen, met, in-of, at-of, stored, turned, same-stored, kept-stored, a-next, b-next}
+use Rattle.filling.proofs.Decided.{knows-next}
+use Rattle.selecting.proofs.Chosen.{recalls-none}
+use Rattle.selecting.proofs.fill_select.Proof.Turning.{Inv-loop, μ-loop, by, old, a-row, b-row, start, as-filled, a-sound, b-sound, a-valid, test-of, a-part, b-part, near-zero, base, instant, turn-of, same, index, near, kept, turn-at, loop-at, label, label-fits, label-some, fresh-at, Asks, chosen, met, in-of, at-of, stored, turned, same-stored, kept-stored, a-next, b-next}
 use Rattle.selecting.proofs.fill_select.Statement.{statement}
 use Rattle.selecting.proofs.fill_select.Tie as tie
 mod Turning
@@ -206,7 +207,7 @@ loop-again c =
     let l = at-of m in
     let k = base l in
     let h = chosen (met m) in
-    (turned m, a-next n, b-next c, λ e. knows-next (by k) (a-row k) (b-row k) (a-valid k) (instant l) _ _ (h .knows e), h .remembers)
+    (turned m, a-next n, b-next c, λ e. knows-next (a-row k) (test-of k) (a-valid k) (instant l) _ _ (h .knows e), h .remembers)
 
 -- ---- the end
 

@@ -1,37 +1,26 @@
--- `pairs::combining::fill_combine` meets its contract: each turn of the loop writes the cell of one instant.
+-- `pairs::combining::fill_combine` meets its contract: each turn of the loop writes the cell of one instant, whose granule in b is decided where its first label shows.
 -- Assumes nothing.
-use borrow.Author.Needs.{sfits-of}
-use borrow.Author.Tests.{not-true, not-false}
+use borrow.Author.Needs.{needs}
+use borrow.Author.Tests.{not-true}
 use mathlib.Core.Path.{_≡_, refl, sym, _∙_}
-use mathlib.Core.Bool.{false}
-use mathlib.Core.List.{List}
-use Prim.Native.Nat.{_+_, _-_, _≤_, _<_}
+use mathlib.Core.Bool.{true}
 use native.Mathlib.Omega.{arith}
-use lib.IntN.{ℤ, pos}
-use lib.ListN.{length}
-use Rattle.integers.proofs.Linear.{ints}
-use Rattle.calendar.specs.Compute.{result}
+use mir.Facts.{toZ-ofZ}
+use mir.Syntax.{w64}
+use mir.Val.{toZ, ofZ}
+use Rattle.integers.proofs.Linear.{ints, _∴_}
+use Rattle.calendar.specs.Checks.{sound}
+use Rattle.granules.proofs.Tests.{true≢false}
 use Rattle.rows.specs.Found.{found}
-use Rattle.operands.specs.declared.Kind.the-variants.{Combine}
-use Rattle.operands.specs.Operations.{operationOf}
-use Rattle.operands.specs.Stands.{rowIn}
-use Rattle.filling.specs.declared.Filled.{Filled}
-use Rattle.filling.proofs.Cells.{lent-is}
-use Rattle.filling.proofs.Turns.{Lent, Turn, Fills, lentAs, lentOf, rowOf, first-two, fills-two, turn-length, turn-ends, turn-index, turn-more, turn-out, turn-done}
-use Rattle.pairs.specs.Scanning.{Combines}
-use Rattle.pairs.proofs.Scans.{no-flag}
-use Rattle.pairs.proofs.Steps.{step-asks, step-gave}
+use Rattle.rows.specs.Cursor.{Standing}
+use Rattle.filling.proofs.Turns.{turn-instant, turn-out, turn-done}
+use Rattle.filling.proofs.Decided.{knows-next}
+use Rattle.pairs.proofs.combining.fill_combine.Proof.Turning.{Inv-loop, μ-loop, old, b-row, start, as-filled, a-sound, b-sound, b-valid, test-of, a-part, b-part, near-zero, base, instant, turn-of, same, index, near, kept, turn-at, loop-at, label, label-fits, label-some, fresh-at, Asks, chosen, met, in-of, at-of, stored, turned, same-stored, kept-stored, a-next, b-next}
 use Rattle.pairs.proofs.combining.fill_combine.Statement.{statement}
 use Rattle.pairs.proofs.combining.fill_combine.Tie as tie
+mod Turning
 
-abbrev Inv-loop : tie.InvT-loop
-Inv-loop span at period pool₀ a-start a-end a-period a-distance b-start b-end b-period b-distance s₀ labelled₀ t₀ pool s labelled t =
-    let a = lentAs a-start a-end a-period a-distance in
-    let b = lentAs b-start b-end b-period b-distance in
-    Turn Combine a b at period pool₀ pool labelled t × Combines (rowOf a pool₀) (rowOf b pool₀) (pos t) s
-
-abbrev μ-loop : tie.MeasureT-loop
-μ-loop span at period pool₀ a-start a-end a-period a-distance b-start b-end b-period b-distance s₀ labelled₀ t₀ pool s labelled t = period - t
+-- ---- the rows that are lent
 
 end-of-requires : tie.Need-end-of-requires Inv-loop μ-loop
 end-of-requires c κs = (c .pre .1 .a-period, c .pre .1 .a-end)
@@ -39,138 +28,129 @@ end-of-requires c κs = (c .pre .1 .a-period, c .pre .1 .a-end)
 end-of-requires-2 : tie.Need-end-of-requires-2 Inv-loop μ-loop
 end-of-requires-2 c κs = let s = c .before .before .before in (s .pre .1 .b-period, s .pre .1 .b-end)
 
--- ---- the rows that are lent
-
-abbrev Told : Type 0
-Told = tie.After-struct-told4 Inv-loop μ-loop
-
-abbrev entry : Told → tie.Start Inv-loop μ-loop
-entry c = c .before .before .before .before .before .before
-
-abbrev a-lent : Told → Lent
-a-lent c = lentOf (entry c .args .a) (c .before .before .before .before .before .end-of .result)
-
-abbrev b-lent : Told → Lent
-b-lent c = lentOf (entry c .args .b) (c .before .before .end-of2 .result)
-
-a-is : (c : Told) → let s = entry c in rowOf (a-lent c) (s .args .pool .now) ≡ rowIn (s .args .pool .now) (s .args .a)
-a-is c = lent-is (entry c .args .a) _ _ (c .before .before .before .before .before .end-of .ensures) (sfits-of (c .before .before .before .before .struct-told .given .1 .0 .1)) (sfits-of (c .before .before .before .struct-told2 .given .1 .1 .0 .1))
-
-b-is : (c : Told) → let s = entry c in rowOf (b-lent c) (s .args .pool .now) ≡ rowIn (s .args .pool .now) (s .args .b)
-b-is c = lent-is (entry c .args .b) _ _ (c .before .before .end-of2 .ensures) (sfits-of (c .before .struct-told3 .given .1 .0 .1)) (sfits-of (c .struct-told4 .given .1 .1 .0 .1))
-
-first : (c : Told) → let s = entry c in Turn Combine (a-lent c) (b-lent c) (s .args .at) (s .args .period) (s .args .pool .now) (s .args .pool .now) false 0
-first c =
-    let s = entry c in
-    first-two _ _ refl (s .args .a) (s .args .b) _ _ _ _ _ (c .before .before .before .before .before .end-of .ensures) (a-is c) _ (c .before .before .end-of2 .ensures) (b-is c) (s .pre .0) (s .pre .1)
-
--- what the loop ensures, over the operands
-as-filled : (c : Told) (new : List ℤ) (r : Filled) → let s = entry c in
-    Fills (operationOf Combine (rowOf (a-lent c) (s .args .pool .now)) (rowOf (b-lent c) (s .args .pool .now))) (s .args .at) (s .args .period) (s .args .pool .now) new r
-    → Fills (operationOf Combine (rowIn (s .args .pool .now) (s .args .a)) (rowIn (s .args .pool .now) (s .args .b))) (s .args .at) (s .args .period) (s .args .pool .now) new r
-as-filled c new r h =
-    let s = entry c in
-    fills-two Combine Combine refl (s .args .a) (s .args .b) (s .args .span) (s .args .at) (s .args .period) _ _ (c .before .before .before .before .before .end-of .ensures) (a-is c) _ (c .before .before .end-of2 .ensures) (b-is c) new r h
-
--- ---- the state before the instant 0
+-- ---- the cursors of the instant 0
 
 mul-cursor-at : tie.Need-mul-cursor-at Inv-loop μ-loop
-mul-cursor-at c = let l = first c .lends in omega (arith, l .a-start, l .a-end, l .room, l .few)
+mul-cursor-at c = let h = a-part c (old c) refl in omega arith
 
 sub-cursor-at : tie.Need-sub-cursor-at Inv-loop μ-loop
-sub-cursor-at c = first c .lends .a-start
+sub-cursor-at c = a-part c (old c) refl .0
 
 part-cursor-at-start : tie.Need-part-cursor-at-start Inv-loop μ-loop
-part-cursor-at-start c = first (c .before) .lends .a-start
+part-cursor-at-start c = a-part (c .before) (old (c .before)) refl .0
 
 part-cursor-at-end : tie.Need-part-cursor-at-end Inv-loop μ-loop
-part-cursor-at-end c = turn-ends _ _ _ _ _ _ _ _ _ (first (c .before)) .0
+part-cursor-at-end c = a-part (c .before) (old (c .before)) refl .1
 
 cursor-at-requires : tie.Need-cursor-at-requires Inv-loop μ-loop
-cursor-at-requires c κs = (first (c .before .before) .lends .is-given .sounds .0, simp ints (omega arith))
+cursor-at-requires c κs = (a-sound (c .before .before), near-zero)
 
 mul-cursor-at-2 : tie.Need-mul-cursor-at-2 Inv-loop μ-loop
-mul-cursor-at-2 c = let l = first (c .before .before .before) .lends in omega (arith, l .b-start, l .b-end, l .room, l .few)
+mul-cursor-at-2 c = let k = c .before .before .before in let h = b-part k (old k) refl in omega arith
 
 sub-cursor-at-2 : tie.Need-sub-cursor-at-2 Inv-loop μ-loop
-sub-cursor-at-2 c = first (c .before .before .before) .lends .b-start
+sub-cursor-at-2 c = let k = c .before .before .before in b-part k (old k) refl .0
 
 part-cursor-at-start-2 : tie.Need-part-cursor-at-start-2 Inv-loop μ-loop
-part-cursor-at-start-2 c = first (c .before .before .before .before) .lends .b-start
+part-cursor-at-start-2 c = let k = c .before .before .before .before in b-part k (old k) refl .0
 
 part-cursor-at-end-2 : tie.Need-part-cursor-at-end-2 Inv-loop μ-loop
-part-cursor-at-end-2 c = turn-ends _ _ _ _ _ _ _ _ _ (first (c .before .before .before .before)) .1
+part-cursor-at-end-2 c = let k = c .before .before .before .before in b-part k (old k) refl .1
 
 cursor-at-requires-2 : tie.Need-cursor-at-requires-2 Inv-loop μ-loop
-cursor-at-requires-2 c κs = (first (c .before .before .before .before .before) .lends .is-given .sounds .1, simp ints (omega arith))
-
-abbrev Begun : Type 0
-Begun = tie.After-cursor-at2 Inv-loop μ-loop
-
-abbrev told : Begun → Told
-told c = c .before .before .before .before .before .before
+cursor-at-requires-2 c κs = (b-sound (c .before .before .before .before .before), near-zero)
 
 loop-holds : tie.Need-loop-holds Inv-loop μ-loop
-loop-holds c = (first (told c), record { low = simp ints (omega arith); high = simp ints (omega arith); cursors = (c .before .before .before .cursor-at .ensures, c .cursor-at2 .ensures); keeps = λ e. absurd (no-flag e) })
+loop-holds c =
+    let k = c .before .before .before .before .before .before in
+    (start k, c .before .before .before .cursor-at .ensures, c .cursor-at2 .ensures, λ e. absurd (true≢false e refl))
 
--- ---- a turn
+-- ---- an instant
 
-abbrev At-loop : Type 0
-At-loop = tie.At-loop Inv-loop μ-loop
+mul-cursor-label : tie.Need-mul-cursor-label Inv-loop μ-loop
+mul-cursor-label c = let h = b-part (base (c .before)) (c .before .loop .pool) (same (c .before)) in omega arith
 
-index : (c : tie.In-loop Inv-loop μ-loop) → let l = c .before in (entry (told (l .before)) .args .at + l .loop .t < length (l .loop .pool)) × (length (l .loop .pool) ≤ 1048576)
-index c = turn-index _ _ _ _ _ _ _ _ _ (c .before .loop .inv .0) (c .loop-test .taken)
+sub-cursor-label : tie.Need-sub-cursor-label Inv-loop μ-loop
+sub-cursor-label c = b-part (base (c .before)) (c .before .loop .pool) (same (c .before)) .0
 
-a-end : (l : At-loop) → a-lent (told (l .before)) .end ≤ length (l .loop .pool)
-a-end l = turn-ends _ _ _ _ _ _ _ _ _ (l .loop .inv .0) .0
+part-cursor-label-start : tie.Need-part-cursor-label-start Inv-loop μ-loop
+part-cursor-label-start c = let l = c .before .before in b-part (base l) (l .loop .pool) (same l) .0
 
-b-end : (l : At-loop) → b-lent (told (l .before)) .end ≤ length (l .loop .pool)
-b-end l = turn-ends _ _ _ _ _ _ _ _ _ (l .loop .inv .0) .1
+part-cursor-label-end : tie.Need-part-cursor-label-end Inv-loop μ-loop
+part-cursor-label-end c = let l = c .before .before in b-part (base l) (l .loop .pool) (same l) .1
 
-cast-combine : tie.Need-cast-combine Inv-loop μ-loop
-cast-combine c = let h = index c in omega arith
-
-mul-combine : tie.Need-mul-combine Inv-loop μ-loop
-mul-combine c = let h = index (c) in omega (arith, a-end (c .before), c .before .loop .inv .0 .lends .a-start)
-
-sub-combine : tie.Need-sub-combine Inv-loop μ-loop
-sub-combine c = c .before .loop .inv .0 .lends .a-start
-
-part-combine-start : tie.Need-part-combine-start Inv-loop μ-loop
-part-combine-start c = c .before .before .loop .inv .0 .lends .a-start
-
-part-combine-end : tie.Need-part-combine-end Inv-loop μ-loop
-part-combine-end c = a-end (c .before .before)
-
-mul-combine-2 : tie.Need-mul-combine-2 Inv-loop μ-loop
-mul-combine-2 c = let h = index (c .before .before) in omega (arith, b-end (c .before .before .before), c .before .before .before .loop .inv .0 .lends .b-start)
-
-sub-combine-2 : tie.Need-sub-combine-2 Inv-loop μ-loop
-sub-combine-2 c = c .before .before .before .loop .inv .0 .lends .b-start
-
-part-combine-start-2 : tie.Need-part-combine-start-2 Inv-loop μ-loop
-part-combine-start-2 c = c .before .before .before .loop .inv .0 .lends .b-start
-
-part-combine-end-2 : tie.Need-part-combine-end-2 Inv-loop μ-loop
-part-combine-end-2 c = b-end (c .before .before .before)
-
-combine-requires : tie.Need-combine-requires Inv-loop μ-loop
-combine-requires c κs =
-    let i = c .before .before .before in
+cursor-label-requires : tie.Need-cursor-label-requires Inv-loop μ-loop
+cursor-label-requires c κs =
+    let i = c .before .before in
     let l = i .before in
-    step-asks _ _ _ _ _ _ _ _ _ (l .loop .inv .0) (i .loop-test .taken) (λ x y t. Combines x y t (l .loop .s)) (l .loop .inv .1)
+    kept l (λ x y. (sound y ≡ true) × Standing y (l .loop .d)) (b-sound (base l), (instant l, near i, l .loop .inv .2))
 
--- the label of the instant, and the next state
-stepped : (c : tie.After-combine Inv-loop μ-loop) →
-    let l = c .before .before .before .before .before in
-    let d = told (l .before) in
-    let s = entry d in
-    let a = rowOf (a-lent d) (s .args .pool .now) in
-    let b = rowOf (b-lent d) (s .args .pool .now) in
-    (found (c .combine .result .label) ≡ result (operationOf Combine a b) (pos (l .loop .t))) × Combines a b (pos (l .loop .t + 1)) (c .combine .result .next)
-stepped c =
-    let i = c .before .before .before .before in
-    step-gave _ _ _ _ _ _ _ _ _ (i .before .loop .inv .0) (i .loop-test .taken) _ (λ x y t. Combines x y t (c .combine .result .next)) (c .combine .ensures)
+enum-known-inner : tie.Need-enum-known-inner Inv-loop μ-loop
+enum-known-inner c = search needs
+
+enum-told : tie.Need-enum-told Inv-loop μ-loop
+enum-told c = search needs
+
+-- ---- a label k in b
+
+cast-lies : tie.Need-cast-lies Inv-loop μ-loop
+cast-lies c = near (turn-at (c .before)) ∴ simp ints (omega arith)
+
+mul-lies : tie.Need-mul-lies Inv-loop μ-loop
+mul-lies c = let l = loop-at (c .before) in let h = a-part (base l) (l .loop .pool) (same l) in omega arith
+
+sub-lies : tie.Need-sub-lies Inv-loop μ-loop
+sub-lies c = let l = loop-at (c .before) in a-part (base l) (l .loop .pool) (same l) .0
+
+part-lies-start : tie.Need-part-lies-start Inv-loop μ-loop
+part-lies-start c = let l = loop-at (c .before .before) in a-part (base l) (l .loop .pool) (same l) .0
+
+part-lies-end : tie.Need-part-lies-end Inv-loop μ-loop
+part-lies-end c = let l = loop-at (c .before .before) in a-part (base l) (l .loop .pool) (same l) .1
+
+mul-lies-2 : tie.Need-mul-lies-2 Inv-loop μ-loop
+mul-lies-2 c = let l = loop-at (c .before .before .before) in let h = b-part (base l) (l .loop .pool) (same l) in omega arith
+
+sub-lies-2 : tie.Need-sub-lies-2 Inv-loop μ-loop
+sub-lies-2 c = let l = loop-at (c .before .before .before) in b-part (base l) (l .loop .pool) (same l) .0
+
+part-lies-start-2 : tie.Need-part-lies-start-2 Inv-loop μ-loop
+part-lies-start-2 c = let l = loop-at (c .before .before .before) in b-part (base l) (l .loop .pool) (same l) .0
+
+part-lies-end-2 : tie.Need-part-lies-end-2 Inv-loop μ-loop
+part-lies-end-2 c = let l = loop-at (c .before .before .before) in b-part (base l) (l .loop .pool) (same l) .1
+
+lies-requires : tie.Need-lies-requires Inv-loop μ-loop
+lies-requires c κs =
+    let f = c .before .before .before in
+    let k = f .before in
+    let l = loop-at k in
+    let i = l .loop .inv in
+    kept l (Asks l (toZ w64 (l .loop .t)) (toZ w64 (ofZ w64 (label k))))
+    (rw (turn-instant _ _ _ _ _ _ _ _ _ (turn-of l) (turn-at k .loop-test .taken), toZ-ofZ (label-fits k))
+    (a-sound (base l), (b-sound (base l), (near (turn-at k) ∴ simp ints (omega arith), (label-some k, (i .1, (i .2, fresh-at f)))))))
+
+-- ---- the label of a
+
+mul-cursor-label-2 : tie.Need-mul-cursor-label-2 Inv-loop μ-loop
+mul-cursor-label-2 c = let l = loop-at (c .before .before) in let h = a-part (base l) (l .loop .pool) (same l) in omega arith
+
+sub-cursor-label-2 : tie.Need-sub-cursor-label-2 Inv-loop μ-loop
+sub-cursor-label-2 c = let l = loop-at (c .before .before) in a-part (base l) (l .loop .pool) (same l) .0
+
+part-cursor-label-start-2 : tie.Need-part-cursor-label-start-2 Inv-loop μ-loop
+part-cursor-label-start-2 c = let l = loop-at (c .before .before .before) in a-part (base l) (l .loop .pool) (same l) .0
+
+part-cursor-label-end-2 : tie.Need-part-cursor-label-end-2 Inv-loop μ-loop
+part-cursor-label-end-2 c = let l = loop-at (c .before .before .before) in a-part (base l) (l .loop .pool) (same l) .1
+
+cursor-label-requires-2 : tie.Need-cursor-label-requires-2 Inv-loop μ-loop
+cursor-label-requires-2 c κs =
+    let i = turn-at (c .before .before .before .before) in
+    let l = i .before in
+    kept l (λ x y. (sound x ≡ true) × Standing x (l .loop .c)) (a-sound (base l), (instant l, near i, l .loop .inv .1))
+
+-- ---- the label that is written
 
 add-store : tie.Need-add-store Inv-loop μ-loop
 add-store c = let h = index (c .before .before .before .before) in omega arith
@@ -179,33 +159,71 @@ store-requires : tie.Need-store-requires Inv-loop μ-loop
 store-requires c κs = index (c .before .before .before .before .before) .0
 
 same-length : tie.Need-same-length Inv-loop μ-loop
-same-length c = c .before .before .store .ensures .1 .0 ∙ turn-length _ _ _ _ _ _ _ _ _ (c .before .before .before .before .before .before .before .before .before .loop .inv .0)
+same-length c = let e = c .before .before in e .store .ensures .1 .0 ∙ same (e .before .before .before .before .before .before .before)
 
 returns : tie.Need-returns Inv-loop μ-loop
 returns c =
     let n = c .before .before in
-    let x = n .before .before in
-    let i = x .before .before .before .before in
-    as-filled (told (i .before .before)) _ _
-    (turn-out _ _ _ _ _ _ _ _ _ (i .before .loop .inv .0) (i .loop-test .taken) _ (stepped x .0) _ (n .store .ensures .1 .0) (sym (n .store .ensures .0) ∙ not-true _ (c .if1 .taken)))
+    let m = n .before .before in
+    let i = m .before .before .before .before in
+    as-filled (base (i .before)) _ _
+    (turn-out _ _ _ _ _ _ _ _ _ (turn-of (i .before)) (i .loop-test .taken) (found (m .match .kept)) (chosen m .is-label) _ (n .store .ensures .1 .0) (sym (n .store .ensures .0) ∙ not-true _ (c .if4 .taken)))
 
 any-requires : tie.Need-any-requires Inv-loop μ-loop
 any-requires c κs = tt
 
+-- ---- the next instant
+
+mul-cursor-next : tie.Need-mul-cursor-next Inv-loop μ-loop
+mul-cursor-next c = let h = a-part (base (at-of c)) (stored c) (same-stored c) in omega arith
+
+sub-cursor-next : tie.Need-sub-cursor-next Inv-loop μ-loop
+sub-cursor-next c = a-part (base (at-of c)) (stored c) (same-stored c) .0
+
+part-cursor-next-start : tie.Need-part-cursor-next-start Inv-loop μ-loop
+part-cursor-next-start c = let m = c .before in a-part (base (at-of m)) (stored m) (same-stored m) .0
+
+part-cursor-next-end : tie.Need-part-cursor-next-end Inv-loop μ-loop
+part-cursor-next-end c = let m = c .before in a-part (base (at-of m)) (stored m) (same-stored m) .1
+
+cursor-next-requires : tie.Need-cursor-next-requires Inv-loop μ-loop
+cursor-next-requires c κs =
+    let m = c .before .before in
+    let l = at-of m in
+    kept-stored m (λ x y. (sound x ≡ true) × Standing x (l .loop .c)) (a-sound (base l), (instant l, near (in-of m), l .loop .inv .1))
+
+mul-cursor-next-2 : tie.Need-mul-cursor-next-2 Inv-loop μ-loop
+mul-cursor-next-2 c = let m = c .before .before .before in let h = b-part (base (at-of m)) (stored m) (same-stored m) in omega arith
+
+sub-cursor-next-2 : tie.Need-sub-cursor-next-2 Inv-loop μ-loop
+sub-cursor-next-2 c = let m = c .before .before .before in b-part (base (at-of m)) (stored m) (same-stored m) .0
+
+part-cursor-next-start-2 : tie.Need-part-cursor-next-start-2 Inv-loop μ-loop
+part-cursor-next-start-2 c = let m = c .before .before .before .before in b-part (base (at-of m)) (stored m) (same-stored m) .0
+
+part-cursor-next-end-2 : tie.Need-part-cursor-next-end-2 Inv-loop μ-loop
+part-cursor-next-end-2 c = let m = c .before .before .before .before in b-part (base (at-of m)) (stored m) (same-stored m) .1
+
+cursor-next-requires-2 : tie.Need-cursor-next-requires-2 Inv-loop μ-loop
+cursor-next-requires-2 c κs =
+    let m = c .before .before .before .before .before in
+    let l = at-of m in
+    kept-stored m (λ x y. (sound y ≡ true) × Standing y (l .loop .d)) (b-sound (base l), (instant l, near (in-of m), l .loop .inv .2))
+
 add-t : tie.Need-add-t Inv-loop μ-loop
-add-t c = let h = index (c .before .before .before .before .before .before .before .before .before .before) in omega arith
+add-t c = let h = index (in-of (c .before .before .before .before .before .before)) in omega arith
 
 loop-less : tie.Need-loop-less Inv-loop μ-loop
-loop-less c = omega (arith, c .before .before .before .before .before .before .before .before .before .before .loop-test .taken)
+loop-less c = omega (arith, in-of (c .before .before .before .before .before .before) .loop-test .taken)
 
 loop-again : tie.Need-loop-again Inv-loop μ-loop
 loop-again c =
-    let e = c .before .before in
-    let n = e .before .before in
-    let x = n .before .before in
-    let i = x .before .before .before .before in
-    let r = not-false _ (e .if1 .left) in
-    (turn-more _ _ _ _ _ _ _ _ _ (i .before .loop .inv .0) (i .loop-test .taken) _ (stepped x .0) _ _ (sym (n .store .ensures .0) ∙ r) (n .store .ensures .1 .1 r) (c .before .any .ensures), stepped x .1)
+    let n = c .before .before .before in
+    let m = n .before .before .before in
+    let l = at-of m in
+    let k = base l in
+    let h = chosen (met m) in
+    (turned m, a-next n, b-next c, λ e. knows-next (b-row k) (test-of k) (b-valid k) (instant l) _ _ (h .knows e))
 
 -- ---- the end
 
@@ -213,12 +231,12 @@ outcome-requires : tie.Need-outcome-requires Inv-loop μ-loop
 outcome-requires c κs = tt
 
 same-length-2 : tie.Need-same-length-2 Inv-loop μ-loop
-same-length-2 c = turn-length _ _ _ _ _ _ _ _ _ (c .before .before .loop .inv .0)
+same-length-2 c = same (c .before .before)
 
 returns-2 : tie.Need-returns-2 Inv-loop μ-loop
 returns-2 c =
     let l = c .before .before in
-    as-filled (told (l .before)) _ _ (rw (c .outcome .ensures) (turn-done _ _ _ _ _ _ _ _ _ (l .loop .inv .0) (c .before .loop-test .left)))
+    as-filled (base l) _ _ (rw (c .outcome .ensures) (turn-done _ _ _ _ _ _ _ _ _ (turn-of l) (c .before .loop-test .left)))
 
 pub fill-combine-spec : {M : Type 1} → statement M
 fill-combine-spec =
@@ -239,21 +257,43 @@ fill-combine-spec =
     part-cursor-at-end-2
     cursor-at-requires-2
     loop-holds
-    cast-combine
-    mul-combine
-    sub-combine
-    part-combine-start
-    part-combine-end
-    mul-combine-2
-    sub-combine-2
-    part-combine-start-2
-    part-combine-end-2
-    combine-requires
+    mul-cursor-label
+    sub-cursor-label
+    part-cursor-label-start
+    part-cursor-label-end
+    cursor-label-requires
+    enum-known-inner
+    cast-lies
+    mul-lies
+    sub-lies
+    part-lies-start
+    part-lies-end
+    mul-lies-2
+    sub-lies-2
+    part-lies-start-2
+    part-lies-end-2
+    lies-requires
+    mul-cursor-label-2
+    sub-cursor-label-2
+    part-cursor-label-start-2
+    part-cursor-label-end-2
+    cursor-label-requires-2
+    enum-told
     add-store
     store-requires
     same-length
     returns
     any-requires
+    mul-cursor-next
+    sub-cursor-next
+    part-cursor-next-start
+    part-cursor-next-end
+    cursor-next-requires
+    mul-cursor-next-2
+    sub-cursor-next-2
+    part-cursor-next-start-2
+    part-cursor-next-end-2
+    cursor-next-requires-2
     add-t
     loop-less
     loop-again

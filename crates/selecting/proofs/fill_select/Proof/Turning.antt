@@ -19,6 +19,7 @@ use Rattle.integers.proofs.Linear.{ints, _∴_}
 use Rattle.calendar.specs.Meaning.{Row, meant}
 use Rattle.calendar.specs.Lists.{first, only}
 use Rattle.calendar.specs.Granules.{granule}
+use Rattle.calendar.specs.Compute.{selects}
 use Rattle.calendar.specs.Checks.{sound}
 use Rattle.granules.specs.Valid.{Valid}
 use Rattle.granules.proofs.Tests.{true≢false}
@@ -26,7 +27,7 @@ use Rattle.rows.specs.Found.{found, Near, Within}
 use Rattle.rows.specs.Cursor.{cursorAt}
 use Rattle.rows.proofs.Numbers.{valid}
 use Rattle.selections.specs.declared.Selection.{Selection}
-use Rattle.selections.specs.Memos.{Picking, Remembers}
+use Rattle.selections.specs.Memos.{selectionOf, Picking, Remembers}
 use Rattle.operands.specs.declared.Kind.the-variants.{Select}
 use Rattle.operands.specs.Operations.{operationOf}
 use Rattle.operands.specs.Stands.{rowIn}
@@ -34,9 +35,10 @@ use Rattle.filling.specs.declared.Filled.{Filled}
 use Rattle.filling.proofs.Cells.{lent-is}
 use Rattle.filling.proofs.Points.{is-near}
 use Rattle.filling.proofs.Turns.{Lent, Turn, Fills, lentAs, lentOf, rowOf, first-two, fills-two, turn-length, turn-index, turn-below, rows-kept, rows-stood, turn-more}
+use Rattle.filling.proofs.Decided.{knows-same, knows-new, fresh}
 use Rattle.selections.specs.declared.Picked.{Picked}
 use Rattle.selections.specs.Deciding.{Decides}
-use Rattle.selecting.proofs.Chosen.{Knows, Chosen, flag-is, chosen-as, knows-same, knows-new, fresh, chosen-none, chosen-some}
+use Rattle.selecting.proofs.Chosen.{Judged, Chosen, flag-is, chosen-as, chosen-none, chosen-some}
 use Rattle.selecting.proofs.fill_select.Tie as tie
 
 abbrev pub Inv-loop : tie.InvT-loop
@@ -46,7 +48,7 @@ Inv-loop by span at period pool₀ a-start a-end a-period a-distance b-start b-e
     Turn (Select by) a b at period pool₀ pool labelled t
     × (c ≡ cursorAt (rowOf a pool₀) (pos t))
     × (d ≡ cursorAt (rowOf b pool₀) (pos t))
-    × (decided ≡ true → Knows by (rowOf a pool₀) (rowOf b pool₀) (pos t -ℤ pos 1) of holds)
+    × (decided ≡ true → Judged by (rowOf a pool₀) (rowOf b pool₀) (pos t -ℤ pos 1) of holds)
     × Remembers by (rowOf a pool₀) (rowOf b pool₀) picked
 
 abbrev pub μ-loop : tie.MeasureT-loop
@@ -114,6 +116,10 @@ b-sound k = start k .lends .is-given .sounds .1
 
 pub a-valid : (k : Base) → Valid (a-row k)
 a-valid k = valid (A k .period) (A k .distance) (a-row k .cells) (a-sound k)
+
+-- what is decided of a's granules
+abbrev pub test-of : Base → ℤ → Bool
+test-of k = selects (selectionOf (by k)) (a-row k) (b-row k)
 
 -- the parts that are lent lie in the pool
 pub a-part : (k : Base) (new : List ℤ) → length new ≡ length (old k) → (A k .start ≤ A k .end) × (A k .end ≤ length new) × (A k .end ≤ 1048576)
@@ -187,7 +193,7 @@ fresh-at c d =
     let k = base l in
     ⊎-elim
     (λ w. absurd (true≢false d (not-true _ (w .taken))))
-    (λ w. fresh (by k) (a-row k) (b-row k) (a-valid k) (instant l) (l .loop .of) (l .loop .holds) (label s) (label-some s) (label-fits s) (eqb-false _ _ (not-true _ (w .1 .taken))) (l .loop .inv .3 d))
+    (λ w. fresh (a-row k) (test-of k) (a-valid k) (instant l) (l .loop .of) (l .loop .holds) (label s) (label-some s) (label-fits s) (eqb-false _ _ (not-true _ (w .1 .taken))) (l .loop .inv .3 d))
     (c .if1 .came)
 
 -- what is asked of the rows x and y: t is the instant and j the label, as the machine has them
@@ -209,7 +215,7 @@ decides c =
 abbrev Settled : (c : Shown) → ℕ → Bool → Picked → Type 0
 Settled c of holds picked =
     let l = loop-at c in
-    let k = base l in Knows (by k) (a-row k) (b-row k) (instant l) of holds × Remembers (by k) (a-row k) (b-row k) picked
+    let k = base l in Judged (by k) (a-row k) (b-row k) (instant l) of holds × Remembers (by k) (a-row k) (b-row k) picked
 
 settled : (c : tie.Joined1-2 Inv-loop μ-loop) → Settled (c .before) (c .if1 .of) (c .if1 .holds) (c .if1 .picked)
 settled c =
@@ -220,11 +226,11 @@ settled c =
     (λ w.
     let d = decides record { before = record { before = record { before = record { before = record { before = s; if1 = w .0 }; pool4 = w .1 }; decided-arg = w .2 }; decided-arg2 = w .3 }; decided = w .4 } in
     let h = w .10 ∙ ap (λ (z : ℤ). eqb (ofZ w64 z) 1) (d .holds) ∙ flag-is _ in
-    (knows-new (by k) (a-row k) (b-row k) (a-valid k) (instant l) _ _ (label s) (label-some s) (label-fits s) (w .9) h, rw (w .11) (d .remembers)))
+    (knows-new (a-row k) (test-of k) (a-valid k) (instant l) _ _ (label s) (label-some s) (label-fits s) (w .9) h, rw (w .11) (d .remembers)))
     (λ w.
     let q = eqb-true (l .loop .of) (ofZ w64 (label s)) (not-false _ (w .1 .left)) in
     let h = l .loop .inv .3 (not-false _ (w .0 .left)) in
-    rw (w .3, w .4, w .5) (knows-same (by k) (a-row k) (b-row k) (a-valid k) (instant l) _ _ (label s) (label-some s) (label-fits s) q h, l .loop .inv .4))
+    rw (w .3, w .4, w .5) (knows-same (a-row k) (test-of k) (a-valid k) (instant l) _ _ (label s) (label-some s) (label-fits s) q h, l .loop .inv .4))
     (c .if1 .came)
 
 -- ---- the label that is written
@@ -239,7 +245,7 @@ of-label c =
     let l = loop-at s in
     let k = base l in
     let h = settled c in
-    chosen-some (by k) (a-row k) (b-row k) (a-valid k) (instant l) _ _ (label s) (label-some s) (label-fits s) _ _ (h .0) (h .1)
+    chosen-some (by k) (a-row k) (b-row k) (a-valid k) (instant l) _ _ (label s) (label-some s) _ _ (h .0) (h .1)
 
 of-none : (c : tie.After-enum-told Inv-loop μ-loop) → let l = c .before .before .before .before .before .before in Chooses l none (l .loop .decided) (l .loop .of) (l .loop .holds) (l .loop .picked)
 of-none c =
