@@ -1,5 +1,5 @@
 -- What the proofs of alter rest on.
---     Beginnings   where a coarse granule begins, and the walk to the next
+--     Beginnings   where a coarse granule begins, and where the next one does
 --     Residues     which integers a number divides after some steps
 --     Shortness    check 10, by the lengths of coarse granules
 --     Passes       a pass over coarse granules

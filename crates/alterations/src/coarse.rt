@@ -64,7 +64,7 @@ pub fn begin_at(
     Begin { i, p, a, b }
 }
 
-// Where the next granule of b begins.
+// Where the next granule of b begins: at the next instant with another label.
 pub fn following(
     c: Begin,
     a_cells: &[i32],
@@ -84,20 +84,11 @@ pub fn following(
     ensures of { λ r. ⌜ r .i ≡ c .i +ℤ pos 1 ⌝ }
     ensures near { λ r. ⌜ (at (given «b_period» «b_distance» (now («b_cells» .entry))) c <ℤ at (given «b_period» «b_distance» (now («b_cells» .entry))) r) × (at (given «b_period» «b_distance» (now («b_cells» .entry))) r ≤ℤ (at (given «b_period» «b_distance» (now («b_cells» .entry))) c +ℤ «b_period»)) ⌝ }
 {
-    let mut a = c.a;
-    let mut b = c.b;
-    loop {
-        a = rows::cursor_next(a_cells, a_period, a_distance, a);
-        b = rows::cursor_next(b_cells, b_period, b_distance, b);
-        let label = rows::cursor_label(b_cells, b_period, b_distance, b);
-        match label {
-            Found::At(i) => {
-                if i != c.i {
-                    let p = label_of(a_cells, a_period, a_distance, a);
-                    return Begin { i, p, a, b };
-                }
-            }
-            Found::Nothing => {}
-        }
-    }
+    let from = c.b;
+    let change = runs::next_change(b_cells, b_period, b_distance, from);
+    let a = runs::cursor_on(a_cells, a_period, a_distance, c.a, change.steps);
+    let b = change.cursor;
+    let p = label_of(a_cells, a_period, a_distance, a);
+    let i = label_of(b_cells, b_period, b_distance, b);
+    Begin { i, p, a, b }
 }

@@ -1,69 +1,56 @@
--- `alterations::coarse::following` meets its contract: it is a walk on to the first instant with another label of b.
+-- `alterations::coarse::following` meets its contract: it is a stride on to the next instant with another label of b.
 -- Assumes nothing.
-use borrow.Author.Needs.{needs, sfits-of}
-use mathlib.Core.Path.{_≡_, refl, sym, _∙_, ap}
+use borrow.Author.Needs.{sfits-of}
+use mathlib.Core.Path.{_≡_, refl, _∙_, ap}
 use mathlib.Core.Option.{some}
-use Prim.Native.Nat.{_^_, _<_}
+use Prim.Native.Nat.{_^_}
 use native.Mathlib.Omega.{arith}
 use lib.IntN.{ℤ, pos, _+ℤ_}
+use lib.Signed.{_≤ℤ_}
+use mir.Facts.{toZ-ofZ}
 use mir.Syntax.{w64}
 use mir.Val.{toZ, ofZ, SFits}
-use Rattle.integers.specs.Parts.{up}
 use Rattle.integers.proofs.Linear.{ints, _∴_}
-use Rattle.integers.proofs.Machine.{plain, test-eq}
+use Rattle.integers.proofs.Machine.{plain}
 use Rattle.calendar.specs.Meaning.{Row, meant}
 use Rattle.calendar.specs.Questions.{given}
-use Rattle.granules.proofs.Tests.{some-inj, none≢some}
-use Rattle.rows.specs.Found.{Sound, Near, Within, found}
+use Rattle.rows.specs.Found.{Sound, Near, Within}
 use Rattle.rows.specs.Cursor.{cursorAt}
 use Rattle.rows.proofs.Numbers.{numbers, valid}
-use Rattle.rows.proofs.Walks.{ahead}
-use Rattle.walks.specs.Places.{instant}
 use Rattle.algebra.proofs.Fine.{Partitioned}
+use Rattle.runs.specs.Changes.{Changes}
 use Rattle.alterations.specs.declared.coarse.Begin.{Begin}
 use Rattle.alterations.specs.Begins.{at, Begins}
-use Rattle.alterations.proofs.Beginnings.{Passing, Next, passing-start, passing-high, passing-less, passing-on, passing-ends}
+use Rattle.alterations.proofs.Beginnings.{Next, next-begins}
 use Rattle.alterations.proofs.coarse.following.Statement.{statement}
 use Rattle.alterations.proofs.coarse.following.Tie as tie
 
-abbrev Inv-loop : tie.InvT-loop
-Inv-loop c a-cells a-period a-distance b-cells b-period b-distance a₀ b₀ a b =
-    Passing (given (toZ w64 a-period) (toZ w64 a-distance) a-cells) (given (toZ w64 b-period) (toZ w64 b-distance) b-cells) c a b
-
-abbrev μ-loop : tie.MeasureT-loop
-μ-loop c a-cells a-period a-distance b-cells b-period b-distance a₀ b₀ a b =
-    let r = given (toZ w64 b-period) (toZ w64 b-distance) b-cells in
-    ahead (up (toZ w64 b-period)) (at r c) (instant r b)
-
 -- the rows as the machine has them
-abbrev Start : Type 0
-Start = tie.Start Inv-loop μ-loop
-
-abbrev a-row : Start → Row
+abbrev a-row : tie.Start → Row
 a-row s = given (toZ w64 (ofZ w64 (s .args .a-period))) (toZ w64 (ofZ w64 (s .args .a-distance))) (s .args .a-cells .now)
 
-abbrev b-row : Start → Row
+abbrev b-row : tie.Start → Row
 b-row s = given (toZ w64 (ofZ w64 (s .args .b-period))) (toZ w64 (ofZ w64 (s .args .b-distance))) (s .args .b-cells .now)
 
-a-sound : (s : Start) → Sound (toZ w64 (ofZ w64 (s .args .a-period))) (toZ w64 (ofZ w64 (s .args .a-distance))) (s .args .a-cells .now)
+a-sound : (s : tie.Start) → Sound (toZ w64 (ofZ w64 (s .args .a-period))) (toZ w64 (ofZ w64 (s .args .a-distance))) (s .args .a-cells .now)
 a-sound s =
     let p = s .fits .a-period in
     let n = s .fits .a-distance in
     simp plain (s .pre .0)
 
-b-sound : (s : Start) → Sound (toZ w64 (ofZ w64 (s .args .b-period))) (toZ w64 (ofZ w64 (s .args .b-distance))) (s .args .b-cells .now)
+b-sound : (s : tie.Start) → Sound (toZ w64 (ofZ w64 (s .args .b-period))) (toZ w64 (ofZ w64 (s .args .b-distance))) (s .args .b-cells .now)
 b-sound s =
     let p = s .fits .b-period in
     let n = s .fits .b-distance in
     simp plain (s .pre .1 .0)
 
--- what is required of them and of where the walk starts
+-- what is required of them and of where the stride starts
 record Asked (a b : Row) (c : Begin) : Type 0 where
   known : Partitioned a b
   begun : Begins a b c
   within : Within (2 ^ 58) (at b c)
 
-asked : (s : Start) → Asked (a-row s) (b-row s) (s .args .c)
+asked : (s : tie.Start) → Asked (a-row s) (b-row s) (s .args .c)
 asked s =
     let p = s .fits .a-period in
     let n = s .fits .a-distance in
@@ -74,86 +61,82 @@ asked s =
     let r = s .pre .1 .1 in
     simp plain (record { known = record { valid = (v, w); full = r .0; partition = r .1 .0 }; begun = r .1 .1 .0; within = r .1 .1 .1 })
 
-loop-holds : tie.Need-loop-holds Inv-loop μ-loop
-loop-holds c = let s = c .before .before in passing-start (a-row s) (b-row s) (asked s .known) (s .args .c) (asked s .begun)
+abbrev from : tie.Start → ℤ
+from s = at (b-row s) (s .args .c)
 
--- where the walk is
-abbrev start : tie.At-loop Inv-loop μ-loop → Start
-start l = l .before .before .before
+near : (s : tie.Start) → Near (from s)
+near s = asked s .within ∴ simp ints (omega arith)
 
-abbrev here : tie.At-loop Inv-loop μ-loop → ℤ
-here l = instant (b-row (start l)) (l .loop .b)
+next-change-requires : tie.Need-next-change-requires
+next-change-requires c κs = let s = c .before in (b-sound s, (from s, near s, asked s .begun .b-cursor, (_, asked s .begun .b-label)))
 
-near : (l : tie.At-loop Inv-loop μ-loop) → Near (here l) × Near (here l +ℤ pos 1)
-near l =
-    let s = start l in
+-- the next instant with another label of b
+abbrev start : tie.After-next-change → tie.Start
+start c = c .before .before
+
+changed : (c : tie.After-next-change) → Changes (b-row (start c)) (from (start c)) (c .next-change .result)
+changed c = c .next-change .ensures (from (start c)) (asked (start c) .begun .b-cursor)
+
+few : (c : tie.After-next-change) → (pos 1 ≤ℤ c .next-change .result .steps) × (c .next-change .result .steps ≤ℤ pos 1048576)
+few c =
+    let s = start c in
     let n = numbers (toZ w64 (ofZ w64 (s .args .b-period))) (toZ w64 (ofZ w64 (s .args .b-distance))) (s .args .b-cells .now) (b-sound s) in
-    let h = passing-high (a-row s) (b-row s) (asked s .known) (s .args .c) (asked s .begun) (l .loop .a) (l .loop .b) (l .loop .inv) in
-    asked s .within ∴ n .high ∴ l .loop .inv .low ∴ h ∴ simp ints (omega arith)
+    changed c .on ∴ changed c .near ∴ n .high ∴ simp ints (omega arith)
 
-cursor-next-requires : tie.Need-cursor-next-requires Inv-loop μ-loop
-cursor-next-requires l κs = (a-sound (start l), (here l, near l .0, l .loop .inv .a-cursor))
+steps-are : (c : tie.After-next-change) → toZ w64 (ofZ w64 (c .next-change .result .steps)) ≡ c .next-change .result .steps
+steps-are c = toZ-ofZ (few c ∴ simp ints (omega arith))
 
-cursor-next-requires-2 : tie.Need-cursor-next-requires-2 Inv-loop μ-loop
-cursor-next-requires-2 c κs = let l = c .before in (b-sound (start l), (here l, near l .0, l .loop .inv .b-cursor))
+abbrev there : tie.After-next-change → ℤ
+there c = from (start c) +ℤ c .next-change .result .steps
 
--- the cursors of the next instant
-a-next : (d : tie.After-cursor-next2 Inv-loop μ-loop) → let l = d .before .before in d .before .cursor-next .result ≡ cursorAt (a-row (start l)) (here l +ℤ pos 1)
-a-next d = let l = d .before .before in d .before .cursor-next .ensures (here l) (l .loop .inv .a-cursor)
+near-there : (c : tie.After-next-change) → Near (there c)
+near-there c = asked (start c) .within ∴ few c ∴ simp ints (omega arith)
 
-b-next : (d : tie.After-cursor-next2 Inv-loop μ-loop) → let l = d .before .before in d .cursor-next2 .result ≡ cursorAt (b-row (start l)) (here l +ℤ pos 1)
-b-next d = let l = d .before .before in d .cursor-next2 .ensures (here l) (l .loop .inv .b-cursor)
+cursor-on-requires : tie.Need-cursor-on-requires
+cursor-on-requires c κs =
+    let n = c .before in
+    let s = start n in
+    (a-sound s, ((from s, near s, asked s .begun .a-cursor), steps-are n ∴ few n ∴ simp ints (omega arith)))
 
-cursor-label-requires : tie.Need-cursor-label-requires Inv-loop μ-loop
-cursor-label-requires d κs = let l = d .before .before in (b-sound (start l), (here l +ℤ pos 1, near l .1, b-next d))
+a-cursor : (c : tie.After-cursor-on) → let n = c .before .before in c .cursor-on .result ≡ cursorAt (a-row (start n)) (there n)
+a-cursor c =
+    let n = c .before .before in
+    c .cursor-on .ensures (from (start n)) (asked (start n) .begun .a-cursor) ∙ ap (λ (z : ℤ). cursorAt (a-row (start n)) (from (start n) +ℤ z)) (steps-are n)
 
--- and its label
-b-label : (c : tie.After-cursor-label Inv-loop μ-loop) → let l = c .before .before .before in meant (b-row (start l)) (here l +ℤ pos 1) ≡ found (c .cursor-label .result)
-b-label c = let l = c .before .before .before in sym (c .cursor-label .ensures (here l +ℤ pos 1) (b-next (c .before)))
+-- a labels the instants that b does
+a-shown : (n : tie.After-next-change) → (p : ℤ) × (meant (a-row (start n)) (there n) ≡ some p)
+a-shown n = asked (start n) .known .partition .labelled (there n) .1 (_, changed n .other .1)
 
-enum-known-label : tie.Need-enum-known-label Inv-loop μ-loop
-enum-known-label c = search needs
-
--- where it has one
-abbrev before : tie.After-known-told Inv-loop μ-loop → tie.At-loop Inv-loop μ-loop
-before c = c .before .before .before .before .before .before
-
-shown : (c : tie.After-known-told Inv-loop μ-loop) → meant (b-row (start (before c))) (here (before c) +ℤ pos 1) ≡ some (c .before .label .given .0 .0)
-shown c = b-label (c .before .before .before) ∙ ap found (c .before .label .given .1)
-
-a-shown : (c : tie.After-known-told Inv-loop μ-loop) → (p : ℤ) × (meant (a-row (start (before c))) (here (before c) +ℤ pos 1) ≡ some p)
-a-shown c = asked (start (before c)) .known .partition .labelled (here (before c) +ℤ pos 1) .1 (_, shown c)
-
-label-of-requires : tie.Need-label-of-requires Inv-loop μ-loop
+label-of-requires : tie.Need-label-of-requires
 label-of-requires c κs =
-    let k = c .before .before .before in
-    let l = before k in
-    (a-sound (start l), (here l +ℤ pos 1, near l .1, a-next (k .before .before .before .before), a-shown k))
+    let n = c .before .before .before in
+    (a-sound (start n), (there n, near-there n, a-cursor (c .before), a-shown n))
 
--- what is returned where it is another
-abbrev shows : tie.After-label-of Inv-loop μ-loop → tie.After-known-told Inv-loop μ-loop
-shows c = c .before .before .before .before
+label-of-requires-2 : tie.Need-label-of-requires-2
+label-of-requires-2 c κs =
+    let n = c .before .before .before .before in
+    (b-sound (start n), (there n, near-there n, changed n .cursor, (_, changed n .other .1)))
 
-abbrev made : tie.After-label-of Inv-loop μ-loop → Begin
-made c =
-    let d = shows c .before .before .before .before in
-    record { i = shows c .before .label .given .0 .0; p = c .label-of .result; a = d .before .cursor-next .result; b = d .cursor-next2 .result }
+-- what is returned
+abbrev change : tie.After-label-of2 → tie.After-next-change
+change c = c .before .before .before .before .before
 
-next : (c : tie.After-label-of Inv-loop μ-loop) → let s = start (before (shows c)) in Next (a-row s) (b-row s) (s .args .c) (made c)
+abbrev made : tie.After-label-of2 → Begin
+made c = record { i = c .label-of2 .result; p = c .before .label-of .result; a = c .before .before .before .cursor-on .result; b = change c .next-change .result .cursor }
+
+next : (c : tie.After-label-of2) → let s = start (change c) in Next (a-row s) (b-row s) (s .args .c) (made c)
 next c =
-    let k = shows c in
-    let d = k .before .before .before .before in
-    let l = before k in
-    let s = start l in
-    let p = c .label-of .ensures (here l +ℤ pos 1) (a-next d) in
-    passing-ends (a-row s) (b-row s) (asked s .known) (s .args .c) (asked s .begun) (l .loop .a) (l .loop .b) (l .loop .inv) _ _ (a-next d) (b-next d) (made c) refl refl p (shown k)
-    (λ e. c .before .if1 .taken (ap (ofZ w64) e))
+    let n = change c in
+    let s = start n in
+    next-begins (a-row s) (b-row s) (asked s .known) (s .args .c) (made c) (asked s .begun) (n .next-change .result) (changed n) (a-cursor (c .before .before .before)) refl
+    (c .before .label-of .ensures (there n) (a-cursor (c .before .before .before)))
+    (c .label-of2 .ensures (there n) (changed n .cursor))
 
-returns : tie.Need-returns Inv-loop μ-loop
+returns : tie.Need-returns
 returns c =
-    let s = start (before (shows c)) in
-    let i : SFits w64 (made c .i) = sfits-of (shows c .known-told .given .0 .1) in
-    let p : SFits w64 (made c .p) = sfits-of (c .label-of .ok) in
+    let s = start (change c) in
+    let i : SFits w64 (made c .i) = sfits-of (c .label-of2 .ok) in
+    let p : SFits w64 (made c .p) = sfits-of (c .before .label-of .ok) in
     let pa = s .fits .a-period in
     let da = s .fits .a-distance in
     let pb = s .fits .b-period in
@@ -162,57 +145,5 @@ returns c =
     let e = simp plain at (next c) in
     simp plain (e .begins, (e .of, (e .behind, e .near ∴ n .period-is ∴ simp ints (omega arith))))
 
-less : (d : tie.After-cursor-next2 Inv-loop μ-loop) → let l = d .before .before in
-    ahead (b-row (start l) .period) (at (b-row (start l)) (start l .args .c)) (instant (b-row (start l)) (d .cursor-next2 .result))
-    < ahead (b-row (start l) .period) (at (b-row (start l)) (start l .args .c)) (here l)
-less d =
-    let l = d .before .before in
-    let s = start l in
-    passing-less (a-row s) (b-row s) (asked s .known) (s .args .c) (asked s .begun) (l .loop .a) (l .loop .b) (l .loop .inv) _ _ (a-next d) (b-next d)
-
-loop-less : tie.Need-loop-less Inv-loop μ-loop
-loop-less c = less (c .before .before .before .before .before .before .before)
-
-on : (d : tie.After-cursor-next2 Inv-loop μ-loop) → let l = d .before .before in
-    ((i : ℤ) → meant (b-row (start l)) (here l +ℤ pos 1) ≡ some i → i ≡ start l .args .c .i)
-    → Passing (a-row (start l)) (b-row (start l)) (start l .args .c) (d .before .cursor-next .result) (d .cursor-next2 .result)
-on d =
-    let l = d .before .before in
-    let s = start l in
-    passing-on (a-row s) (b-row s) (asked s .known) (s .args .c) (asked s .begun) (l .loop .a) (l .loop .b) (l .loop .inv) _ _ (a-next d) (b-next d)
-
-loop-again : tie.Need-loop-again Inv-loop μ-loop
-loop-again c =
-    let k = c .before .before .before in
-    on (k .before .before .before .before)
-    (λ i e. some-inj (sym e ∙ shown k) ∙ test-eq w64 _ _ (sfits-of (k .known-told .given .0 .1)) (sfits-of (c .before .struct-told .given .0 .1)) .0 (c .if1 .left))
-
-enum-told : tie.Need-enum-told Inv-loop μ-loop
-enum-told c = search needs
-
-loop-less-2 : tie.Need-loop-less-2 Inv-loop μ-loop
-loop-less-2 c = less (c .before .before .before)
-
-loop-again-2 : tie.Need-loop-again-2 Inv-loop μ-loop
-loop-again-2 c =
-    let d = c .before .before in
-    on (d .before) (λ i e. absurd (none≢some (ap found (sym (c .enum-told .given .1)) ∙ sym (b-label d) ∙ e)))
-
 pub following-spec : {M : Type 1} → statement M
-following-spec =
-    tie.close
-    (tie.spec
-    Inv-loop
-    μ-loop
-    loop-holds
-    cursor-next-requires
-    cursor-next-requires-2
-    cursor-label-requires
-    enum-known-label
-    label-of-requires
-    returns
-    loop-less
-    loop-again
-    enum-told
-    loop-less-2
-    loop-again-2)
+following-spec = tie.close (tie.spec next-change-requires cursor-on-requires label-of-requires label-of-requires-2 returns)

@@ -20,7 +20,8 @@ use Rattle.algebra.proofs.Fine.{Partitioned}
 use Rattle.alterations.specs.declared.coarse.Begin.{Begin}
 use Rattle.alterations.specs.Begins.{at}
 use Rattle.alterations.specs.Short.{shortBy, Passable}
-use Rattle.alterations.proofs.Beginnings.{Next, left-less}
+use Rattle.alterations.proofs.Beginnings.{Next}
+use Rattle.alterations.proofs.Walking.{left-less}
 use Rattle.alterations.proofs.Passes.{Passed, Small, passed-start, passed-place, passed-small, passed-short, passed-next, passed-end}
 use Rattle.alterations.proofs.emptying.some_short.Statement.{statement}
 use Rattle.alterations.proofs.emptying.some_short.Tie as tie
