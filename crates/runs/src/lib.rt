@@ -75,7 +75,7 @@ pub fn next_change(cells: &[i32], period: i64, distance: i64, c: Cursor) -> Chan
     }
 }
 
-// The cursor so many instants on.
+// The cursor so many instants on. A stride into the next turn, the commonest of those beyond its own, takes no division.
 pub fn cursor_on(cells: &[i32], period: i64, distance: i64, c: Cursor, steps: i64) -> Cursor
     requires { ⌜ Sound period distance (now cells) ⌝ }
     requires { ⌜ Standing (given period distance (now cells)) c ⌝ }
@@ -87,6 +87,13 @@ pub fn cursor_on(cells: &[i32], period: i64, distance: i64, c: Cursor, steps: i6
         return Cursor {
             index: index,
             rise: c.rise,
+        };
+    }
+    let over = index - period;
+    if over < period {
+        return Cursor {
+            index: over,
+            rise: c.rise + distance,
         };
     }
     let turns = integers::floor_div(index, period);

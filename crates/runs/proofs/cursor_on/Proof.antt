@@ -49,61 +49,98 @@ returns c u e =
     (known s .low ∴ s .pre .1 .1 ∴ simp ints (omega arith))
     (simp plain at (c .before .if1 .taken)))
 
+sub-over : tie.Need-sub-over
+sub-over c =
+    let t = c .before in
+    let s = t .before .before in
+    let i = known s .index-fits in
+    let m = s .fits .steps in
+    let p = s .fits .period in
+    let f = simp plain at (add-index t) in
+    let n = numbers (s .args .period) (s .args .distance) (s .args .cells .now) (s .pre .0) in
+    known s .low ∴ known s .high ∴ n .period-is ∴ n .high ∴ s .pre .1 .1 ∴ simp (plain, ints) (omega arith)
+
+add-t10 : tie.Need-add-t10
+add-t10 c =
+    let s = c .before .before .before .before .before .before in
+    let r = known s .rise-fits in
+    let d = s .fits .distance in
+    simp plain (known s .more-fits)
+
+returns-2 : tie.Need-returns-2
+returns-2 c u e =
+    let a = c .before .before .before in
+    let t = a .before in
+    let s = t .before .before in
+    let i = known s .index-fits in
+    let r = known s .rise-fits in
+    let p = s .fits .period in
+    let d = s .fits .distance in
+    let m = s .fits .steps in
+    let f = simp plain at (add-index t) in
+    let o = simp plain at (sub-over a) in
+    let g = known s .more-fits in
+    simp plain
+    (cursor-moved (s .args .period) (s .args .distance) (s .args .cells .now) (s .pre .0) (s .args .c) u (s .args .steps) (pos 1) _ _ e
+    (simp ints (omega arith)) (simp ints (omega arith))
+    (simp plain at (a .if1 .left) ∴ simp ints (omega arith))
+    (simp plain at (c .before .before .if2 .taken)))
+
 floor-div-requires : tie.Need-floor-div-requires
 floor-div-requires c κs =
-    let s = c .before .before .before in
+    let s = c .before .before .before .before in
     let p = s .fits .period in
     let n = numbers (s .args .period) (s .args .distance) (s .args .cells .now) (s .pre .0) in
     n .period-is ∴ n .low ∴ n .middle ∴ simp (plain, ints) (omega arith)
 
 -- the turns, read back from their bits
-turns-are : (c : tie.After-floor-div) → toZ w64 (ofZ w64 (c .floor-div .result)) ≡ T (c .before .before .before .before)
+turns-are : (c : tie.After-floor-div) → toZ w64 (ofZ w64 (c .floor-div .result)) ≡ T (c .before .before .before .before .before)
 turns-are c =
-    let t = c .before .before in
+    let t = c .before .before .before in
     let s = t .before .before in
     let i = known s .index-fits in
     let m = s .fits .steps in
     let f = simp plain at (add-index t) in
     toZ-ofZ (sfits-of (c .floor-div .ok)) ∙ c .floor-div .ensures ∙ ap₂ (λ (y n : ℤ). floorDiv y (up n)) (simp plain) (toZ-ofZ (s .fits .period))
 
-mul-t9 : tie.Need-mul-t9
-mul-t9 c =
-    let s = c .before .before .before .before in
+mul-t11 : tie.Need-mul-t11
+mul-t11 c =
+    let s = c .before .before .before .before .before in
     let p = s .fits .period in
     simp (plain, turns-are c) (strides s .whole-fits)
 
-mul-t11 : tie.Need-mul-t11
-mul-t11 c =
-    let s = c .before .before .before .before in
+mul-t13 : tie.Need-mul-t13
+mul-t13 c =
+    let s = c .before .before .before .before .before in
     let d = s .fits .distance in
     simp (plain, turns-are c) (strides s .more-fits)
 
 -- how far the labels have risen there
 abbrev rise : tie.After-floor-div → ℤ
 rise c =
-    let s = c .before .before .before .before in
+    let s = c .before .before .before .before .before in
     toZ w64 (ofZ w64 (s .args .c .rise)) +ℤ toZ w64 (ofZ w64 (toZ w64 (ofZ w64 (c .floor-div .result)) *ℤ toZ w64 (ofZ w64 (s .args .distance))))
 
-rise-is : (c : tie.After-floor-div) → let s = c .before .before .before .before in rise c ≡ s .args .c .rise +ℤ T s *ℤ s .args .distance
+rise-is : (c : tie.After-floor-div) → let s = c .before .before .before .before .before in rise c ≡ s .args .c .rise +ℤ T s *ℤ s .args .distance
 rise-is c =
-    let s = c .before .before .before .before in
+    let s = c .before .before .before .before .before in
     let r = known s .rise-fits in
     let d = s .fits .distance in
     let m = strides s .more-fits in
     simp (plain, turns-are c)
 
-add-t12 : tie.Need-add-t12
-add-t12 c = let t = c .before .before in subst (SFits w64) (sym (rise-is t)) (strides (t .before .before .before .before) .rise-fits)
+add-t14 : tie.Need-add-t14
+add-t14 c = let t = c .before .before in subst (SFits w64) (sym (rise-is t)) (strides (t .before .before .before .before .before) .rise-fits)
 
 -- its cell
 abbrev cell : tie.After-floor-div → ℤ
 cell c =
-    let s = c .before .before .before .before in
+    let s = c .before .before .before .before .before in
     toZ w64 (ofZ w64 (toZ w64 (ofZ w64 (s .args .c .index)) +ℤ toZ w64 (ofZ w64 (s .args .steps)))) -ℤ toZ w64 (ofZ w64 (toZ w64 (ofZ w64 (c .floor-div .result)) *ℤ toZ w64 (ofZ w64 (s .args .period))))
 
-cell-is : (c : tie.After-floor-div) → let s = c .before .before .before .before in cell c ≡ s .args .c .index +ℤ s .args .steps -ℤ T s *ℤ s .args .period
+cell-is : (c : tie.After-floor-div) → let s = c .before .before .before .before .before in cell c ≡ s .args .c .index +ℤ s .args .steps -ℤ T s *ℤ s .args .period
 cell-is c =
-    let t = c .before .before in
+    let t = c .before .before .before in
     let s = t .before .before in
     let i = known s .index-fits in
     let m = s .fits .steps in
@@ -112,16 +149,16 @@ cell-is c =
     let w = strides s .whole-fits in
     simp (plain, turns-are c)
 
-sub-t10 : tie.Need-sub-t10
-sub-t10 c = subst (SFits w64) (sym (cell-is c)) (strides (c .before .before .before .before) .cell-fits)
+sub-t12 : tie.Need-sub-t12
+sub-t12 c = subst (SFits w64) (sym (cell-is c)) (strides (c .before .before .before .before .before) .cell-fits)
 
-returns-2 : tie.Need-returns-2
-returns-2 c u e =
+returns-3 : tie.Need-returns-3
+returns-3 c u e =
     let t = c .before .before in
-    let s = t .before .before .before .before in
+    let s = t .before .before .before .before .before in
     cursor-eq _ _ _ _ (read-as {w = w64} {x = cell t} (cell-is t) (strides s .cell-fits)) (read-as {w = w64} {x = rise t} (rise-is t) (strides s .rise-fits)) ∙ strides s .leads u e
 
 pub cursor-on-spec : {M : Type 1} → statement M
 cursor-on-spec =
     tie.close
-    (tie.spec add-index returns floor-div-requires mul-t9 sub-t10 mul-t11 add-t12 returns-2)
+    (tie.spec add-index returns sub-over add-t10 returns-2 floor-div-requires mul-t11 sub-t12 mul-t13 add-t14 returns-3)
