@@ -6,6 +6,7 @@
 --     Rising       whether labels rise alike
 --     Passes       a pass over two rows
 --     Looks        a pass that is about to look at an instant
+--     Changes      a pass where every instant has a label, by the changes of b
 --     Codes        labels as numbers
 pub mod Pairs
 pub mod Fitting
@@ -14,4 +15,5 @@ pub mod Starts
 pub mod Rising
 pub mod Passes
 pub mod Looks
+pub mod Changes
 pub mod Codes

@@ -30,7 +30,7 @@ pub record Looking (r : Row) (c : Cursor) (t : ℤ) : Type 0 where
   pub labelled : meant r ahead ≡ some label
 
 -- what is left of a walk to e
-pub left-less : (e t t′ : ℤ) → t′ ≡ t +ℤ pos 1 → t <ℤ e → up (e -ℤ t′) < up (e -ℤ t)
+pub left-less : (e t t′ : ℤ) → t <ℤ t′ → t <ℤ e → up (e -ℤ t′) < up (e -ℤ t)
 left-less e t t′ step h = by (e -ℤ t′) (e -ℤ t) (step ∴ simp ints (omega arith)) (h ∴ simp ints (omega arith))
   where
     by : (x y : ℤ) → x <ℤ y → pos 0 <ℤ y → up x < up y

@@ -26,6 +26,10 @@ pub record Starts (r : Row) (t : ℤ) : Type 0 where
   pub high : t <ℤ pos (r .period)
   pub labelled : (j : ℤ) × (meant r t ≡ some j)
 
+-- every instant has a label
+abbrev pub Whole : Row → Type 0
+Whole r = (t : ℤ) → (j : ℤ) × (meant r t ≡ some j)
+
 -- the limits of a sound row's numbers
 pub record Limited (period distance : ℤ) : Type 0 where
   pub low : pos 1 ≤ℤ distance

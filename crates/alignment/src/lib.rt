@@ -14,6 +14,8 @@ ghost use Rattle.alignment.specs.Fits.{alignmentOf};
 ghost use Rattle.alignment.specs.Pass.{Spanned, RiseAlike, Starts, Limited};
 use rows::Found;
 
+mod changing;
+
 // How a and b may have to lie to each other: as alter asks, as anchor asks, as the set operations ask.
 enum Alignment {
     Partition,
@@ -227,7 +229,8 @@ fn aligned(
     }
 }
 
-// Whether a and b label the same instants and each granule of a lies in one of b, as alter asks.
+// Whether a and b label the same instants and each granule of a lies in one of b, as alter asks. Where every instant has a label, a look
+// at b's changes tells.
 pub fn partitions(
     a_cells: &[i32],
     a_period: i64,
@@ -242,6 +245,19 @@ pub fn partitions(
     requires { ⌜ Spanned (given «a_period» «a_distance» (now «a_cells»)) (given «b_period» «b_distance» (now «b_cells»)) span ⌝ }
     ensures { λ r. ⌜ r ≡ alignedAs partition (given «a_period» «a_distance» (now («a_cells» .entry))) (given «b_period» «b_distance» (now («b_cells» .entry))) ⌝ }
 {
+    if changing::is_whole(a_cells, a_period, a_distance) {
+        if changing::is_whole(b_cells, b_period, b_distance) {
+            return changing::changes_with(
+                a_cells,
+                a_period,
+                a_distance,
+                b_cells,
+                b_period,
+                b_distance,
+                span,
+            );
+        }
+    }
     aligned(
         Alignment::Partition,
         a_cells,

@@ -337,7 +337,7 @@ loop-less : tie.Need-loop-less Inv-loop μ-loop
 loop-less c =
     let i = c .before .before in
     let l = looked i in
-    left-less (from (begun l) +ℤ S (start l)) (at l) (next i) (step i) (inner i)
+    left-less (from (begun l) +ℤ S (start l)) (at l) (next i) (step i ∴ simp ints (omega arith)) (inner i)
 
 loop-again : tie.Need-loop-again Inv-loop μ-loop
 loop-again c =

@@ -92,7 +92,7 @@ loop-less : tie.Need-loop-less Inv-loop μ-loop
 loop-less c =
     let l = c .before .before .before .before in
     let s = l .before .before in
-    left-less (pos (row s .period)) (at l) _ (step c) (looking-high (row s) (rules s) (l .loop .c) (l .loop .c) (at l) (at l) (l .loop .inv))
+    left-less (pos (row s .period)) (at l) (toZ w64 (ofZ w64 (at l +ℤ pos 1))) (step c ∴ simp ints (omega arith)) (looking-high (row s) (rules s) (l .loop .c) (l .loop .c) (at l) (at l) (l .loop .inv))
 
 loop-again : tie.Need-loop-again Inv-loop μ-loop
 loop-again c =
