@@ -7,6 +7,7 @@ ghost use Rattle.calendar.specs.Checks.{alignedAs};
 ghost use Rattle.calendar.specs.Questions.{given};
 ghost use Rattle.rows.specs.Found.{Sound};
 ghost use Rattle.alignment.specs.Pass.{Spanned, Whole};
+use super::comparing;
 
 // Whether every instant of a row has a label.
 pub fn is_whole(cells: &[i32], period: i64, distance: i64) -> bool
@@ -46,7 +47,7 @@ pub fn changes_with(
         let o = rows::cursor_label(a_cells, a_period, a_distance, before);
         a = rows::cursor_next(a_cells, a_period, a_distance, before);
         let x = rows::cursor_label(a_cells, a_period, a_distance, a);
-        if super::same(o, x) {
+        if comparing::same(o, x) {
             return false;
         }
         b = change.cursor;

@@ -1,12 +1,12 @@
--- `alignment::fits_subcalendar` meets its contract.
+-- `alignment::comparing::fits_subcalendar` meets its contract.
 -- Assumes nothing.
 use mathlib.Core.Path.{refl, sym, _∙_, ap}
 use mathlib.Core.Bool.{true, false, not}
 use Rattle.rows.specs.Found.{found}
 use Rattle.alignment.proofs.Choices.{outcome, subcalendar-at}
 use borrow.Author.Needs.{needs}
-use Rattle.alignment.proofs.fits_subcalendar.Statement.{statement}
-use Rattle.alignment.proofs.fits_subcalendar.Tie as tie
+use Rattle.alignment.proofs.comparing.fits_subcalendar.Statement.{statement}
+use Rattle.alignment.proofs.comparing.fits_subcalendar.Tie as tie
 
 labelled-requires : tie.Need-labelled-requires
 labelled-requires c κs = search needs

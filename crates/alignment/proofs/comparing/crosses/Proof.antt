@@ -1,4 +1,4 @@
--- `alignment::crosses` meets its contract.
+-- `alignment::comparing::crosses` meets its contract.
 -- Assumes nothing.
 use mathlib.Core.Path.{_≡_, refl, sym, _∙_, ap}
 use mathlib.Core.Bool.{Bool, true, false, _&&_, _||_}
@@ -13,8 +13,8 @@ use Rattle.rows.specs.Found.{found}
 use Rattle.alignment.specs.Fits.{crosses}
 use Rattle.alignment.proofs.Choices.{outcome, crosses-at}
 use borrow.Author.Needs.{needs, sfits-of}
-use Rattle.alignment.proofs.crosses.Statement.{statement}
-use Rattle.alignment.proofs.crosses.Tie as tie
+use Rattle.alignment.proofs.comparing.crosses.Statement.{statement}
+use Rattle.alignment.proofs.comparing.crosses.Tie as tie
 
 enum-known-o : tie.Need-enum-known-o
 enum-known-o c = search needs

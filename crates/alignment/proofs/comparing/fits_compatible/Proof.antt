@@ -1,12 +1,12 @@
--- `alignment::fits_compatible` meets its contract.
+-- `alignment::comparing::fits_compatible` meets its contract.
 -- Assumes nothing.
 use mathlib.Core.Path.{refl, sym, _∙_}
 use mathlib.Core.Bool.{true, false}
 use Rattle.rows.specs.Found.{found}
 use Rattle.alignment.proofs.Choices.{outcome, compatible-at}
 use borrow.Author.Needs.{needs}
-use Rattle.alignment.proofs.fits_compatible.Statement.{statement}
-use Rattle.alignment.proofs.fits_compatible.Tie as tie
+use Rattle.alignment.proofs.comparing.fits_compatible.Statement.{statement}
+use Rattle.alignment.proofs.comparing.fits_compatible.Tie as tie
 
 agree-requires : tie.Need-agree-requires
 agree-requires c κs = search needs

@@ -1,12 +1,12 @@
--- `alignment::agree` meets its contract: labels are compared by their bits.
+-- `alignment::comparing::same` meets its contract: labels are compared by their bits.
 -- Assumes nothing.
 use mathlib.Core.Path.{sym, _∙_, ap, ap₂}
+use Rattle.calendar.specs.Lists.{sameLabel}
 use Rattle.rows.specs.Found.{found}
-use Rattle.alignment.specs.Fits.{agree}
 use Rattle.alignment.proofs.Choices.{bits-test}
 use borrow.Author.Needs.{needs, sfits-of}
-use Rattle.alignment.proofs.agree.Statement.{statement}
-use Rattle.alignment.proofs.agree.Tie as tie
+use Rattle.alignment.proofs.comparing.same.Statement.{statement}
+use Rattle.alignment.proofs.comparing.same.Tie as tie
 
 enum-known-x : tie.Need-enum-known-x
 enum-known-x c = search needs
@@ -20,10 +20,13 @@ enum-told c = search needs
 enum-told-2 : tie.Need-enum-told-2
 enum-told-2 c = search needs
 
+labelled-requires : tie.Need-labelled-requires
+labelled-requires c κs = search needs
+
 returns : tie.Need-returns
 returns c =
     bits-test (c .before .before .before .before .x .given .0 .0) (c .before .y .given .0 .0) (sfits-of (c .before .before .before .known-told .given .0 .1)) (sfits-of (c .known-told2 .given .0 .1))
-    ∙ ap₂ agree (ap found (sym (c .before .before .before .before .x .given .1))) (ap found (sym (c .before .y .given .1)))
+    ∙ ap₂ sameLabel (ap found (sym (c .before .before .before .before .x .given .1))) (ap found (sym (c .before .y .given .1)))
 
 returns-2 : tie.Need-returns-2
 returns-2 c = search needs
@@ -31,7 +34,15 @@ returns-2 c = search needs
 returns-3 : tie.Need-returns-3
 returns-3 c = search needs
 
-pub agree-spec : {M : Type 1} → statement M
-agree-spec =
+pub same-spec : {M : Type 1} → statement M
+same-spec =
     tie.close
-    (tie.spec enum-known-x enum-known-y enum-told enum-told-2 returns returns-2 returns-3)
+    (tie.spec
+    enum-known-x
+    enum-known-y
+    enum-told
+    enum-told-2
+    labelled-requires
+    returns
+    returns-2
+    returns-3)

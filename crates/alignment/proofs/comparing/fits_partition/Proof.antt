@@ -1,12 +1,12 @@
--- `alignment::fits_partition` meets its contract.
+-- `alignment::comparing::fits_partition` meets its contract.
 -- Assumes nothing.
 use mathlib.Core.Path.{refl, sym, _∙_}
 use mathlib.Core.Bool.{true, false}
 use Rattle.rows.specs.Found.{found}
 use Rattle.alignment.proofs.Choices.{outcome, partition-at}
 use borrow.Author.Needs.{needs}
-use Rattle.alignment.proofs.fits_partition.Statement.{statement}
-use Rattle.alignment.proofs.fits_partition.Tie as tie
+use Rattle.alignment.proofs.comparing.fits_partition.Statement.{statement}
+use Rattle.alignment.proofs.comparing.fits_partition.Tie as tie
 
 labelled-requires : tie.Need-labelled-requires
 labelled-requires c κs = search needs

@@ -1,12 +1,12 @@
--- `alignment::fits` meets its contract.
+-- `alignment::comparing::fits` meets its contract.
 -- Assumes nothing.
 use mathlib.Core.Path.{sym, _∙_, ap}
 use Rattle.rows.specs.Found.{found}
 use Rattle.alignment.specs.declared.Alignment.{Alignment}
 use Rattle.alignment.specs.Fits.{fits, alignmentOf}
 use borrow.Author.Needs.{needs}
-use Rattle.alignment.proofs.fits.Statement.{statement}
-use Rattle.alignment.proofs.fits.Tie as tie
+use Rattle.alignment.proofs.comparing.fits.Statement.{statement}
+use Rattle.alignment.proofs.comparing.fits.Tie as tie
 
 enum-told : tie.Need-enum-told
 enum-told c = search needs
