@@ -14,7 +14,7 @@ pub fn is_whole(cells: &[i32], period: i64, distance: i64) -> bool
     requires { ⌜ Sound period distance (now cells) ⌝ }
     ensures { λ r. ⌜ (r ≡ true → Whole (given period distance (now (cells .entry)))) ⌝ }
 {
-    rows::labelled_instants(cells) == period
+    counts::labelled_instants(cells) == period
 }
 
 // Whether each granule of a lies in one of b: a's label changes wherever b's does, over one span.

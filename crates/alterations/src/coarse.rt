@@ -56,7 +56,7 @@ pub fn begin_at(
     ensures of { λ r. ⌜ meant (given «b_period» «b_distance» (now («b_cells» .entry))) t ≡ some (r .i) ⌝ }
     ensures near { λ r. ⌜ ((t -ℤ «b_period») ≤ℤ at (given «b_period» «b_distance» (now («b_cells» .entry))) r) × (at (given «b_period» «b_distance» (now («b_cells» .entry))) r ≤ℤ t) ⌝ }
 {
-    let v = rows::first_instant(b_cells, b_period, b_distance, t);
+    let v = granule_ends::first_instant(b_cells, b_period, b_distance, t);
     let a = rows::cursor_at(a_cells, a_period, a_distance, v);
     let b = rows::cursor_at(b_cells, b_period, b_distance, v);
     let p = label_of(a_cells, a_period, a_distance, a);

@@ -47,7 +47,7 @@ pub fn instant_zero(cells: &[i32], period: i64, distance: i64) -> i64
     ensures label { λ r. ⌜ meant (given period distance (now (cells .entry))) r ≡ some (pos 0) ⌝ }
     ensures near { λ r. ⌜ Within (2 ^ 50) r ⌝ }
 {
-    let found = rows::instant_of(cells, period, distance, 0);
+    let found = scans::instant_of(cells, period, distance, 0);
     let Found::At(t) = found else {
         return 0;
     };

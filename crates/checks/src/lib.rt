@@ -37,7 +37,7 @@ fn is_full(cells: &[i32], period: i64, distance: i64) -> bool
     requires { ⌜ Sound period distance (now cells) ⌝ }
     ensures { λ r. ⌜ r ≡ full (given period distance (now (cells .entry))) ⌝ }
 {
-    rows::granules(cells, period, distance) == distance
+    counts::granules(cells, period, distance) == distance
 }
 
 // 8, where span and working period are those of the one operand, or 1.
@@ -79,7 +79,7 @@ pub fn check(
         Kind::Renumber(_) => whole(
             room,
             a_period,
-            rows::granules(a_cells, a_period, a_distance),
+            counts::granules(a_cells, a_period, a_distance),
         ),
         Kind::Alter(by) => altered::alter(
             by,

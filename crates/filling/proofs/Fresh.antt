@@ -13,7 +13,7 @@ use Rattle.calendar.specs.Lists.{first}
 use Rattle.calendar.specs.Granules.{granule}
 use Rattle.calendar.specs.Compute.{anchored}
 use Rattle.granules.specs.Valid.{Valid}
-use Rattle.rows.proofs.Walks.{first-is}
+use Rattle.granule_ends.proofs.Walks.{first-is}
 use Rattle.filling.proofs.Lasts.{not-behind, anchored-label}
 
 pub fresh-first : (r : Row) → Valid r → (t j : ℤ) → meant r t ≡ some j → (anchored r (t -ℤ pos 1) ≡ j → ⊥) → t ≡ first (granule r j)

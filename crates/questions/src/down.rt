@@ -184,20 +184,20 @@ pub fn down(
     ensures list { λ r. ⌜ now (parts .exit) ≡ partsAfter (length (now (parts .entry))) (Q.down (given «h_period» «h_distance» (now («h_cells» .entry))) (given «g_period» «g_distance» (now («g_cells» .entry))) z (length (now (parts .entry)))) ⌝ }
 {
     clear(&mut *parts);
-    if !rows::sound(h_cells, h_period, h_distance) {
+    if !scans::sound(h_cells, h_period, h_distance) {
         return Parted::Refused(Refusal::RowNotSound);
     }
-    if !rows::sound(g_cells, g_period, g_distance) {
+    if !scans::sound(g_cells, g_period, g_distance) {
         return Parted::Refused(Refusal::RowNotSound);
     }
     if !Calendar::in_range(z) {
         return Parted::Refused(Refusal::ArgumentOutsideLimits);
     }
-    let instant = rows::instant_of(h_cells, h_period, h_distance, z);
+    let instant = scans::instant_of(h_cells, h_period, h_distance, z);
     let Found::At(t) = instant else {
         return Parted::Refused(Refusal::NotALabel);
     };
-    let first = rows::first_instant(h_cells, h_period, h_distance, t);
+    let first = granule_ends::first_instant(h_cells, h_period, h_distance, t);
     let walked = parts_of(
         z,
         first,

@@ -46,7 +46,7 @@ pub enum Late {
 pub fn up_instant(t: i64, cells: &[i32], period: i64, distance: i64) -> Up
     ensures { λ r. ⌜ upReply r ≡ upFromInstant (given period distance (now (cells .entry))) t ⌝ }
 {
-    if !rows::sound(cells, period, distance) {
+    if !scans::sound(cells, period, distance) {
         return Up::Refused(Refusal::RowNotSound);
     }
     if !Calendar::in_range(t) {
@@ -72,16 +72,16 @@ pub fn up_granule(
 ) -> Up
     ensures { λ r. ⌜ upReply r ≡ upFromGranule (given «g_period» «g_distance» (now («g_cells» .entry))) (given «h_period» «h_distance» (now («h_cells» .entry))) z ⌝ }
 {
-    if !rows::sound(g_cells, g_period, g_distance) {
+    if !scans::sound(g_cells, g_period, g_distance) {
         return Up::Refused(Refusal::RowNotSound);
     }
-    if !rows::sound(h_cells, h_period, h_distance) {
+    if !scans::sound(h_cells, h_period, h_distance) {
         return Up::Refused(Refusal::RowNotSound);
     }
     if !Calendar::in_range(z) {
         return Up::Refused(Refusal::ArgumentOutsideLimits);
     }
-    let at = rows::instant_of(g_cells, g_period, g_distance, z);
+    let at = scans::instant_of(g_cells, g_period, g_distance, z);
     let Found::At(t) = at else {
         return Up::Refused(Refusal::NotALabel);
     };
@@ -104,11 +104,11 @@ pub fn up_granule(
 pub fn figures(cells: &[i32], period: i64, distance: i64) -> Figured
     ensures { λ r. ⌜ FiguresOf (given period distance (now (cells .entry))) r ⌝ }
 {
-    if !rows::sound(cells, period, distance) {
+    if !scans::sound(cells, period, distance) {
         return Figured::Refused(Refusal::RowNotSound);
     }
-    let labelled = rows::labelled_instants(cells);
-    let granules = rows::granules(cells, period, distance);
+    let labelled = counts::labelled_instants(cells);
+    let granules = counts::granules(cells, period, distance);
     let shown = floats::figures_of(labelled as u64, period as u64, granules as u64);
     Figured::Are(shown)
 }
@@ -129,8 +129,8 @@ fn extent(cells: &[i32], period: i64, distance: i64, t: i64) -> u64
     requires { ⌜ Labelled (given period distance (now cells)) t ⌝ }
     ensures { λ r. ⌜ ((j : ℤ) → meant (given period distance (now (cells .entry))) t ≡ some j → r ≡ Q.extent (given period distance (now (cells .entry))) j) ⌝ }
 {
-    let first = rows::first_instant(cells, period, distance, t);
-    let last = rows::last_instant(cells, period, distance, t);
+    let first = granule_ends::first_instant(cells, period, distance, t);
+    let last = granule_ends::last_instant(cells, period, distance, t);
     (last - first + 1) as u64
 }
 
@@ -142,7 +142,7 @@ fn judged(z: i64, d: i64, allowance: Allowance, cells: &[i32], period: i64, dist
     requires { ⌜ F.isAllowed allowance ≡ true ⌝ }
     ensures { λ r. ⌜ lateReply r ≡ require 15 (has (given period distance (now (cells .entry))) z) (answer (F.mayBeLate (up d) (Q.extent (given period distance (now (cells .entry))) z) allowance)) ⌝ }
 {
-    let at = rows::instant_of(cells, period, distance, z);
+    let at = scans::instant_of(cells, period, distance, z);
     let Found::At(t) = at else {
         return Late::Refused(Refusal::NotALabel);
     };
@@ -166,7 +166,7 @@ pub fn may_be_late(
 ) -> Late
     ensures { λ r. ⌜ lateReply r ≡ mayBeLate (given period distance (now (cells .entry))) z d allowance ⌝ }
 {
-    if !rows::sound(cells, period, distance) {
+    if !scans::sound(cells, period, distance) {
         return Late::Refused(Refusal::RowNotSound);
     }
     if !Calendar::in_range(z) {

@@ -1,7 +1,6 @@
 -- What check 13 says of the numbers of a row that is handed in.
 -- Assumes nothing.
 use mathlib.Core.Path.{_≡_, refl, _∙_, ap}
-use mathlib.Core.Bool.{Bool, true, false}
 use mathlib.Core.List.{List}
 use Prim.Native.Nat.{ℕ, suc, _+_, _≤_, _<_}
 use native.Mathlib.Nat.{mul-le-mul-right}
@@ -16,14 +15,10 @@ use Rattle.integers.specs.Parts.{up}
 use Rattle.integers.specs.Floor.{floorDiv, floorMod}
 use Rattle.integers.proofs.Linear.{ints, _∴_}
 use Rattle.integers.proofs.Floor.{floor-eq, floor-lt}
-use Rattle.calendar.specs.Meaning.{Row}
-use Rattle.calendar.specs.Checks.{sound}
 use Rattle.calendar.specs.Questions.{given}
 use Rattle.granules.specs.Valid.{Valid}
-use Rattle.granules.proofs.Tests.{eqb-iff, leb-iff}
 use Rattle.granules.proofs.Sound.{sound-valid, sound-limits}
 use Rattle.rows.specs.Found.{Sound}
-use Rattle.rows.specs.Order.{labelsSound}
 
 -- the period and the distance of a sound row are naturals, 1 ≤ N ≤ P ≤ 1,048,576, and P is the row's length
 pub record Numbers (period distance : ℤ) (cells : List ℤ) : Type 0 where
@@ -68,16 +63,3 @@ rise-bound P N B above small u lo hi = rise-of P N B (floorMod u P) u (floorDiv 
 -- a number that the machine computed as x and reads back from its bits
 pub read-as : {w : Width} {x y : ℤ} → x ≡ y → SFits w y → toZ w (ofZ w x) ≡ y
 read-as {w} e f = ap (λ (z : ℤ). toZ w (ofZ w z)) e ∙ toZ-ofZ f
-
--- where the numbers pass check 13, the labels are left
-pub labels-left : (r : Row) → length (r .cells) ≡ r .period → 1 ≤ r .distance → r .distance ≤ r .period → r .period ≤ 1048576 → sound r ≡ labelsSound (r .distance) (r .cells)
-unfolding sound
-labels-left r a b c d = rw (eqb-iff (length (r .cells)) (r .period) .1 a, leb-iff 1 (r .distance) .1 b, leb-iff (r .distance) (r .period) .1 c, leb-iff (r .period) 1048576 .1 d)
-
--- a row whose numbers do not pass
-pub unsound : (period distance : ℤ) (cells : List ℤ) → (Numbers period distance cells → ⊥) → sound (given period distance cells) ≡ false
-unsound period distance cells f = by (sound (given period distance cells)) refl
-  where
-    by : (b : Bool) → sound (given period distance cells) ≡ b → b ≡ false
-    by true e = absurd (f (numbers period distance cells e))
-    by false e = refl

@@ -24,7 +24,7 @@ use Rattle.granules.proofs.Rows.{meant-repeats}
 use Rattle.granules.proofs.Inside.{inside-iff, meeting-lists, within-lists}
 use Rattle.rows.specs.declared.Cursor.{Cursor}
 use Rattle.rows.specs.Cursor.{cursorAt}
-use Rattle.rows.proofs.Walks.{ahead}
+use Rattle.granule_ends.proofs.Walks.{ahead}
 use Rattle.selections.specs.declared.counting.Tally.{Tally}
 use Rattle.selections.specs.Memos.{candidates}
 use Rattle.selections.specs.Tallies.{Begins, counts, New, tallyOf}

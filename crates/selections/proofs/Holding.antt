@@ -27,7 +27,7 @@ use Rattle.rows.specs.declared.Found.{Found}
 use Rattle.rows.specs.declared.Found.the-variants.{At, Nothing}
 use Rattle.rows.specs.Found.{found}
 use Rattle.rows.specs.Cursor.{cursorAt}
-use Rattle.rows.proofs.Walks.{ahead}
+use Rattle.granule_ends.proofs.Walks.{ahead}
 use Rattle.selections.specs.declared.up.Met.the-variants as Met
 use Rattle.selections.specs.Holding.{MetAt}
 

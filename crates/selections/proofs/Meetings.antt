@@ -23,7 +23,7 @@ use Rattle.granules.proofs.Granule.{granule-lists}
 use Rattle.rows.specs.declared.Cursor.{Cursor}
 use Rattle.rows.specs.Found.{Within, Near}
 use Rattle.rows.specs.Cursor.{cursorAt}
-use Rattle.rows.proofs.Walks.{ahead}
+use Rattle.granule_ends.proofs.Walks.{ahead}
 use Rattle.rows.proofs.Bounds.{first-bounds}
 use Rattle.selections.specs.declared.Pick.{Pick}
 use Rattle.selections.specs.declared.Picked.{Picked}

@@ -58,7 +58,7 @@ pub fn number_of(x: i64, last: i64, a_cells: &[i32], a_period: i64, a_distance: 
     if turns == 0 {
         return 0 - rest;
     }
-    let granules = rows::granules(a_cells, a_period, a_distance);
+    let granules = counts::granules(a_cells, a_period, a_distance);
     0 - turns * granules - rest
 }
 

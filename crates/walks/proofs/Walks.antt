@@ -15,7 +15,7 @@ use Rattle.granules.specs.Valid.{Valid}
 use Rattle.granules.proofs.Tests.{none≢some, false-iff}
 use Rattle.granules.proofs.Questions.{first-at-most, last-at-least}
 use Rattle.rows.specs.Cursor.{cursorAt}
-use Rattle.rows.proofs.Walks.{Back, Forth, ahead, left, back-start, back-past, back-to, back-end, back-less, forth-start, forth-past, forth-to, forth-end, forth-less}
+use Rattle.granule_ends.proofs.Walks.{Back, Forth, ahead, left, back-start, back-past, back-to, back-end, back-less, forth-start, forth-past, forth-to, forth-end, forth-less}
 use Rattle.walks.specs.declared.Place.{Place}
 use Rattle.walks.specs.declared.Step.the-variants.{On, Done, Out}
 use Rattle.walks.specs.Places.{at, stepAt}

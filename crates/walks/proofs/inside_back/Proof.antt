@@ -14,7 +14,7 @@ use Rattle.calendar.specs.Questions.{given}
 use Rattle.granules.specs.Valid.{Valid}
 use Rattle.rows.specs.Found.{Sound, Near}
 use Rattle.rows.proofs.Numbers.{numbers, valid}
-use Rattle.rows.proofs.Walks.{left}
+use Rattle.granule_ends.proofs.Walks.{left}
 use Rattle.walks.specs.declared.Place.{Place}
 use Rattle.walks.specs.Places.{at, stepAt}
 use Rattle.walks.specs.Sides.{Stands}

@@ -21,7 +21,7 @@ use Rattle.granules.specs.Valid.{Valid}
 use Rattle.rows.specs.Found.{Sound, Near, Within}
 use Rattle.rows.specs.Cursor.{cursorAt}
 use Rattle.rows.proofs.Numbers.{numbers, valid}
-use Rattle.rows.proofs.Walks.{ahead}
+use Rattle.granule_ends.proofs.Walks.{ahead}
 use Rattle.selections.specs.declared.counting.Tally.{Tally}
 use Rattle.selections.specs.declared.counting.Candidate.{Candidate}
 use Rattle.selections.specs.declared.counting.Candidate.the-variants.{Nothing, Passed, Next}

@@ -18,7 +18,7 @@ use Rattle.granules.specs.Valid.{Valid}
 use Rattle.rows.specs.Found.{Sound, Near, Within, found}
 use Rattle.rows.specs.Cursor.{cursorAt}
 use Rattle.rows.proofs.Numbers.{numbers, valid}
-use Rattle.rows.proofs.Walks.{Forth, ahead, forth-start, forth-past, forth-to, forth-end, forth-less}
+use Rattle.granule_ends.proofs.Walks.{Forth, ahead, forth-start, forth-past, forth-to, forth-end, forth-less}
 use Rattle.selections.proofs.Saved.{Beside, beside-here, beside-kept}
 use Rattle.selections.proofs.ends.last_of.Statement.{statement}
 use Rattle.selections.proofs.ends.last_of.Tie as tie

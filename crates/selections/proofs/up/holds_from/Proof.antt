@@ -24,7 +24,7 @@ use Rattle.rows.specs.declared.Found.{Found}
 use Rattle.rows.specs.Found.{Sound, Near, Within}
 use Rattle.rows.specs.Cursor.{cursorAt}
 use Rattle.rows.proofs.Numbers.{numbers, valid}
-use Rattle.rows.proofs.Walks.{ahead}
+use Rattle.granule_ends.proofs.Walks.{ahead}
 use Rattle.selections.specs.declared.up.Met.{Met}
 use Rattle.selections.specs.declared.up.Met.the-variants.{Outside}
 use Rattle.selections.specs.Holding.{MetAt}

@@ -16,7 +16,7 @@ use Rattle.calendar.specs.Questions.{given}
 use Rattle.granules.specs.Valid.{Valid}
 use Rattle.rows.specs.Found.{Sound, Near, Within}
 use Rattle.rows.proofs.Numbers.{numbers, valid}
-use Rattle.rows.proofs.Walks.{ahead}
+use Rattle.granule_ends.proofs.Walks.{ahead}
 use Rattle.selections.specs.Memos.{Recalls}
 use Rattle.selections.proofs.Meetings.{Starts, Walk, room, starts, walk-start}
 use Rattle.selections.proofs.judging.judged.Tie as tie

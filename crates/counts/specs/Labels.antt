@@ -1,0 +1,22 @@
+-- The labels of a row, as the code counts them.
+use mathlib.Core.Bool.{cond}
+use mathlib.Core.List.{List, [], _∷_}
+use Prim.Native.Nat.{ℕ, suc}
+use lib.IntN.{ℤ, pos}
+use lib.Signed.{ltZ}
+use Rattle.counts.specs.declared.Labels.{Labels}
+
+-- how often the labels rise, from j on
+unfoldable pub rises : ℤ → List ℤ → ℕ
+rises j [] = 0
+rises j (z ∷ l) = cond (ltZ j z) (suc (rises z l)) (rises j l)
+
+-- the greatest of these numbers and j
+unfoldable pub greatest : ℤ → List ℤ → ℤ
+greatest j [] = j
+greatest j (z ∷ l) = cond (ltZ j z) (greatest z l) (greatest j l)
+
+-- the labels from j on: j and each that is greater than those before
+unfoldable pub counted : ℤ → List ℤ → Labels
+unfolding rises greatest
+counted j l = record { count = pos (suc (rises j l)); last = greatest j l }

@@ -1,0 +1,3 @@
+-- What is counted in a row.
+--     Labels       the labels that a row has
+pub mod Labels

@@ -1,0 +1,73 @@
+// How many granules and how many labelled instants a turn of a row has.
+
+ghost use mathlib.Core.Path.{_≡_};
+ghost use lib.IntN.{pos};
+ghost use Prim.Native.Nat.{_<_};
+ghost use lib.ListN.{length, getD, drop};
+ghost use Rattle.calendar.specs.Meaning.{empty};
+ghost use Rattle.calendar.specs.Granules as G;
+ghost use Rattle.calendar.specs.Checks as C;
+ghost use Rattle.calendar.specs.Questions.{given};
+ghost use Rattle.rows.specs.Found.{Sound};
+ghost use Rattle.counts.specs.Labels.{counted};
+use calendar::Calendar;
+use scans::scan;
+
+// The labels of a row: how many different ones there are, and the last.
+struct Labels {
+    count: i64,
+    last: i64,
+}
+
+// The labels from the first on, which stands at `start`. As they never fall, each new one is greater than all before; an empty
+// cell is below every label.
+fn labels_from(cells: &[i32], start: usize) -> Labels
+    requires { do ⌜ start < (← ⟦cells.len()⟧) ⌝ }
+    ensures { λ r. ⌜ r ≡ counted (getD (now (cells .entry)) start empty) (drop start (now (cells .entry))) ⌝ }
+{
+    let mut last = cells[start];
+    let mut count: usize = 1;
+    let mut i = start;
+    while i < cells.len() {
+        let z = cells[i];
+        if z > last {
+            last = z;
+            count += 1;
+        }
+        i += 1;
+    }
+    Labels {
+        count: count as i64,
+        last: last as i64,
+    }
+}
+
+// How many granules a turn has: the labels of the row, less one where the last is the first of the next turn.
+pub fn granules(cells: &[i32], period: i64, distance: i64) -> i64
+    requires { ⌜ Sound period distance (now cells) ⌝ }
+    ensures { λ r. ⌜ r ≡ pos (G.granules (given period distance (now (cells .entry)))) ⌝ }
+{
+    let start = scan::leading(cells);
+    let first = scan::wide(cells, start);
+    let labels = labels_from(cells, start);
+    if labels.last == first + distance {
+        labels.count - 1
+    } else {
+        labels.count
+    }
+}
+
+// How many instants of a turn have a label.
+pub fn labelled_instants(cells: &[i32]) -> i64
+    ensures { λ r. ⌜ r ≡ pos (length (C.labelsOf (now (cells .entry)))) ⌝ }
+{
+    let mut count: usize = 0;
+    let mut i = 0;
+    while i < cells.len() {
+        if cells[i] != Calendar::EMPTY {
+            count += 1;
+        }
+        i += 1;
+    }
+    count as i64
+}
