@@ -36,10 +36,16 @@ use Rattle.runs.proofs.Runs.{run-length, run-passes, run-before}
 pub passes-same : (z y : ℤ) → passable z y ≡ true → (y ≡ empty → ⊥) → y ≡ z
 passes-same z y h f = ⊎-elim (λ e. equal-iff y z .0 e) (λ e. absurd (f (empty-iff y .0 e))) (or-iff (equal y z) (isEmpty y) .0 h)
 
+pub same-passes : (z y : ℤ) → y ≡ z → passable z y ≡ true
+same-passes z y e = or-iff (equal y z) (isEmpty y) .1 (inl (equal-iff y z .1 e))
+
+pub none-passes : (z y : ℤ) → y ≡ empty → passable z y ≡ true
+none-passes z y e = or-iff (equal y z) (isEmpty y) .1 (inr (empty-iff y .1 e))
+
 pub fails-other : (z y : ℤ) → passable z y ≡ false → (y ≡ empty → ⊥) × (y ≡ z → ⊥)
 fails-other z y h = (
-  λ e. true≢false (or-iff (equal y z) (isEmpty y) .1 (inr (empty-iff y .1 e))) h,
-  λ e. true≢false (or-iff (equal y z) (isEmpty y) .1 (inl (equal-iff y z .1 e))) h,
+  λ e. true≢false (none-passes z y e) h,
+  λ e. true≢false (same-passes z y e) h,
 )
 
 pub other-fails : (z y : ℤ) → (y ≡ empty → ⊥) → (y ≡ z → ⊥) → passable z y ≡ false

@@ -20,17 +20,6 @@ pub struct Change {
     pub steps: i64,
 }
 
-// Whether a cell has the label z or none.
-fn passes(cell: i32, z: i32) -> bool
-    ensures { λ r. ⌜ r ≡ passable z cell ⌝ }
-{
-    if cell == z {
-        true
-    } else {
-        cell == Calendar::EMPTY
-    }
-}
-
 // The index of the first cell from `start` on that has a label other than z, or the number of cells.
 fn other_from(cells: &[i32], start: usize, z: i32) -> usize
     requires { ⌜ start ≤ length (now cells) ⌝ }
@@ -38,8 +27,11 @@ fn other_from(cells: &[i32], start: usize, z: i32) -> usize
 {
     let mut i = start;
     while i < cells.len() {
-        if !passes(cells[i], z) {
-            return i;
+        let cell = cells[i];
+        if cell != z {
+            if cell != Calendar::EMPTY {
+                return i;
+            }
         }
         i += 1;
     }
