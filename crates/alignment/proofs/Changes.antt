@@ -2,30 +2,28 @@
 -- every instant fits.
 -- Assumes nothing.
 use mathlib.Core.Path.{_≡_, refl, sym, _∙_, ap, subst}
-use mathlib.Core.Logic.{_⊎_, inl, inr}
-use mathlib.Core.Option.{Option, none, some}
+use mathlib.Core.Logic.{inl}
+use mathlib.Core.Option.{Option, some}
 use mathlib.Core.Bool.{Bool, true, false, not, _||_}
-use mathlib.Core.List.{List, [], _∷_}
 use Prim.Native.Nat.{ℕ, zero, suc, _≤_, _<_}
 use native.Mathlib.Omega.{arith}
 use lib.IntN.{ℤ, pos, _+ℤ_, _-ℤ_, _*ℤ_}
 use lib.Signed.{_≤ℤ_, _<ℤ_}
-use lib.ListN.{length, getD}
+use lib.ListN.{length}
 use Rattle.integers.specs.Parts.{up}
 use Rattle.integers.specs.Floor.{floorDiv, floorMod}
 use Rattle.integers.proofs.Linear.{ints, _∴_}
 use Rattle.integers.proofs.Order.{pos-up}
 use Rattle.integers.proofs.Floor.{floor-lt}
-use Rattle.calendar.specs.Meaning.{Row, meant, raise, labelOf, empty}
+use Rattle.calendar.specs.Meaning.{Row, meant, raise}
 use Rattle.calendar.specs.Operation.Alignment.{partition}
 use Rattle.calendar.specs.Lists.{sameLabel}
 use Rattle.calendar.specs.Checks.{alignedAs, labelsOf}
 use Rattle.calendar.specs.Size.{turn, spanOf}
 use Rattle.granules.specs.Valid.{Valid}
 use Rattle.granules.proofs.Tests.{isSome-iff, sameLabel-iff, false-iff}
-use Rattle.granules.proofs.Equal.{cell-cases}
-use Rattle.granules.proofs.Rows.{labels-cons, labels-skip}
 use Rattle.rows.specs.Cursor.{cursorAt}
+use Rattle.counts.proofs.Whole.{all-labelled}
 use Rattle.runs.specs.declared.Change.{Change}
 use Rattle.runs.specs.Changes.{Changes}
 use Rattle.alignment.specs.Fits.{fits}
@@ -34,25 +32,6 @@ use Rattle.alignment.proofs.Choices.{partition-at}
 use Rattle.alignment.proofs.Passes.{Passed, pass-start, pass-to, pass-end, pass-fails}
 
 -- ---- a row with as many labels as cells
-
-labels-few : (l : List ℤ) → length (labelsOf l) ≤ length l
-labels-few [] = omega arith
-labels-few (z ∷ l) = by (cell-cases z) (labels-few l)
-  where
-    by : ((labelOf z ≡ none) × (z ≡ empty)) ⊎ (labelOf z ≡ some z) → length (labelsOf l) ≤ length l → length (labelsOf (z ∷ l)) ≤ suc (length l)
-    by (inl e) h = omega (arith, h, ap length (labels-skip z l (e .0)))
-    by (inr e) h = omega (arith, h, ap length (labels-cons z z l e))
-
-all-labelled : (l : List ℤ) → length (labelsOf l) ≡ length l → (i : ℕ) → i < length l → (j : ℤ) × (labelOf (getD l i empty) ≡ some j)
-all-labelled [] e i h = absurd (omega arith)
-all-labelled (z ∷ l) e i h = by (cell-cases z) i h (all-labelled l)
-  where
-    by : ((labelOf z ≡ none) × (z ≡ empty)) ⊎ (labelOf z ≡ some z) → (i : ℕ) → i < suc (length l)
-        → (length (labelsOf l) ≡ length l → (i : ℕ) → i < length l → (j : ℤ) × (labelOf (getD l i empty) ≡ some j))
-        → (j : ℤ) × (labelOf (getD (z ∷ l) i empty) ≡ some j)
-    by (inl n) i h rest = absurd (omega (arith, e, labels-few l, ap length (labels-skip z l (n .0))))
-    by (inr n) zero h rest = (z, n)
-    by (inr n) (suc i) h rest = rest (omega (arith, e, ap length (labels-cons z z l n))) i (omega arith)
 
 -- every instant has a label then
 pub all-whole : (r : Row) → Valid r → length (labelsOf (r .cells)) ≡ r .period → Whole r

@@ -77,7 +77,7 @@ distinct-other j k x f =
     ∙ ap (λ (l : List ℤ). suc (length l)) (sym (h .1))
 
 module _ (j z : ℤ) (l : List ℤ) where
-  rises-cons : (b : Bool) → ltZ j z ≡ b → (rises j (z ∷ l) ≡ cond b (suc (rises z l)) (rises j l)) × (greatest j (z ∷ l) ≡ cond b (greatest z l) (greatest j l))
+  pub rises-cons : (b : Bool) → ltZ j z ≡ b → (rises j (z ∷ l) ≡ cond b (suc (rises z l)) (rises j l)) × (greatest j (z ∷ l) ≡ cond b (greatest z l) (greatest j l))
   unfolding rises greatest
   rises-cons b e = (ap (λ (x : Bool). cond x (suc (rises z l)) (rises j l)) e, ap (λ (x : Bool). cond x (greatest z l) (greatest j l)) e)
 

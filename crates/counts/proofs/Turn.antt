@@ -106,7 +106,7 @@ module _ (period distance : ℤ) (cells : List ℤ) (s : Sound period distance c
   passes = sym (labels-left row (n .whole) (n .low) (n .middle) (n .high)) ∙ s
 
   -- the last label
-  last-label : (k : ℤ) × (risen f l ≡ some k)
+  pub last-label : (k : ℤ) × (risen f l ≡ some k)
   last-label = by (none-or-some (risen f l))
     where
       by : (risen f l ≡ none) ⊎ ((k : ℤ) × (risen f l ≡ some k)) → (k : ℤ) × (risen f l ≡ some k)
@@ -119,7 +119,7 @@ module _ (period distance : ℤ) (cells : List ℤ) (s : Sound period distance c
   first-is : labelOf f ≡ some f
   first-is = label-full f (λ e. true≢false (empty-iff f .1 e) (run-fails isEmpty cells empty some-label))
 
-  counts : (length (distinct (some f ∷ map labelOf l)) ≡ suc (rises f l)) × (greatest f l ≡ k)
+  pub counts : (length (distinct (some f ∷ map labelOf l)) ≡ suc (rises f l)) × (greatest f l ≡ k)
   counts = counted-is f k l (cell-bound period distance cells s (leading cells) f first-is ∴ simp ints (omega arith)) (last-label .1)
 
   -- the labels of a turn

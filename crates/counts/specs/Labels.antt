@@ -4,6 +4,7 @@ use mathlib.Core.List.{List, [], _∷_}
 use Prim.Native.Nat.{ℕ, suc}
 use lib.IntN.{ℤ, pos}
 use lib.Signed.{ltZ}
+use Rattle.calendar.specs.Lists.{equal}
 use Rattle.counts.specs.declared.Labels.{Labels}
 
 -- how often the labels rise, from j on
@@ -15,6 +16,11 @@ rises j (z ∷ l) = cond (ltZ j z) (suc (rises z l)) (rises j l)
 unfoldable pub greatest : ℤ → List ℤ → ℤ
 greatest j [] = j
 greatest j (z ∷ l) = cond (ltZ j z) (greatest z l) (greatest j l)
+
+-- how many of these numbers are another than the one before, from j on
+unfoldable pub differing : ℤ → List ℤ → ℕ
+differing j [] = 0
+differing j (z ∷ l) = cond (equal z j) (differing z l) (suc (differing z l))
 
 -- the labels from j on: j and each that is greater than those before
 unfoldable pub counted : ℤ → List ℤ → Labels

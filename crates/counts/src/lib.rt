@@ -9,7 +9,8 @@ ghost use Rattle.calendar.specs.Granules as G;
 ghost use Rattle.calendar.specs.Checks as C;
 ghost use Rattle.calendar.specs.Questions.{given};
 ghost use Rattle.rows.specs.Found.{Sound};
-ghost use Rattle.counts.specs.Labels.{counted};
+ghost use Rattle.rows.specs.Search.{leading};
+ghost use Rattle.counts.specs.Labels.{differing, counted};
 use calendar::Calendar;
 use scans::scan;
 
@@ -42,6 +43,40 @@ fn labels_from(cells: &[i32], start: usize) -> Labels
     }
 }
 
+// How many cells are another than the one before.
+fn changes(cells: &[i32]) -> usize
+    requires { do ⌜ 0 < (← ⟦cells.len()⟧) ⌝ }
+    ensures { λ r. ⌜ r ≡ differing (getD (now (cells .entry)) 0 empty) (drop 1 (now (cells .entry))) ⌝ }
+{
+    let mut count: usize = 0;
+    let mut i = 1;
+    while i < cells.len() {
+        if cells[i] != cells[i - 1] {
+            count += 1;
+        }
+        i += 1;
+    }
+    count
+}
+
+// The labels from the first on, which stands at `start`. Where every instant has one, each cell that is another than the one before has a new
+// label; these are counted several at a time.
+fn labels_of(cells: &[i32], period: i64, distance: i64, start: usize) -> Labels
+    requires { ⌜ Sound period distance (now cells) ⌝ }
+    requires { ⌜ start ≡ leading (now cells) ⌝ }
+    ensures { λ r. ⌜ r ≡ counted (getD (now (cells .entry)) start empty) (drop start (now (cells .entry))) ⌝ }
+{
+    if labelled_instants(cells) != period {
+        return labels_from(cells, start);
+    }
+    let count = changes(cells);
+    let last = scan::wide(cells, cells.len() - 1);
+    Labels {
+        count: count as i64 + 1,
+        last: last,
+    }
+}
+
 // How many granules a turn has: the labels of the row, less one where the last is the first of the next turn.
 pub fn granules(cells: &[i32], period: i64, distance: i64) -> i64
     requires { ⌜ Sound period distance (now cells) ⌝ }
@@ -49,7 +84,7 @@ pub fn granules(cells: &[i32], period: i64, distance: i64) -> i64
 {
     let start = scan::leading(cells);
     let first = scan::wide(cells, start);
-    let labels = labels_from(cells, start);
+    let labels = labels_of(cells, period, distance, start);
     if labels.last == first + distance {
         labels.count - 1
     } else {

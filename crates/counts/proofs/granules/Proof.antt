@@ -33,8 +33,12 @@ some-label c = has-label (c .args .period) (c .args .distance) (c .args .cells .
 wide-requires : tie.Need-wide-requires
 wide-requires c κs = omega (arith, some-label (c .before))
 
-labels-from-requires : tie.Need-labels-from-requires
-labels-from-requires c κs = omega (arith, some-label (c .before .before))
+labels-of-requires : tie.Need-labels-of-requires
+labels-of-requires c κs =
+    let s = c .before .before in
+    let p = s .fits .period in
+    let d = s .fits .distance in
+    (simp plain (s .pre), c .before .leading .ensures)
 
 -- the first label, and the cells from it on
 abbrev first : tie.Start → ℤ
@@ -47,16 +51,16 @@ read-is : (c : tie.After-wide) → c .wide .result ≡ first (c .before .before)
 read-is c = c .wide .ensures .0 ∙ ap (λ (i : ℕ). getD (c .before .before .args .cells .now) i empty) (c .before .leading .ensures)
 
 -- the first label of the next turn
-abbrev sum : tie.After-labels-from → ℤ
+abbrev sum : tie.After-labels-of → ℤ
 sum c = toZ w64 (ofZ w64 (c .before .wide .result)) +ℤ toZ w64 (ofZ w64 (c .before .before .before .args .distance))
 
-sum-is : (c : tie.After-labels-from) → sum c ≡ first (c .before .before .before) +ℤ pos (up (c .before .before .before .args .distance))
+sum-is : (c : tie.After-labels-of) → sum c ≡ first (c .before .before .before) +ℤ pos (up (c .before .before .before .args .distance))
 sum-is c =
     let s = c .before .before .before in
     let n = numbers (s .args .period) (s .args .distance) (s .args .cells .now) (s .pre) in
     ap₂ _+ℤ_ (toZ-ofZ (sfits-of (c .before .wide .ok)) ∙ read-is (c .before)) (toZ-ofZ (s .fits .distance) ∙ n .distance-is)
 
-sum-fits : (c : tie.After-labels-from) → SFits w64 (first (c .before .before .before) +ℤ pos (up (c .before .before .before .args .distance)))
+sum-fits : (c : tie.After-labels-of) → SFits w64 (first (c .before .before .before) +ℤ pos (up (c .before .before .before .args .distance)))
 sum-fits c =
     let s = c .before .before .before in
     let n = numbers (s .args .period) (s .args .distance) (s .args .cells .now) (s .pre) in
@@ -66,21 +70,21 @@ add-if1 : tie.Need-add-if1
 add-if1 c = subst (SFits w64) (sym (sum-is c)) (sum-fits c)
 
 -- what was counted
-labels-are : (c : tie.After-labels-from) → c .labels-from .result ≡ counted (first (c .before .before .before)) (rest (c .before .before .before))
-labels-are c = let l = c .before .before .before .args .cells .now in c .labels-from .ensures ∙ ap (λ (i : ℕ). counted (getD l i empty) (drop i l)) (c .before .before .leading .ensures)
+labels-are : (c : tie.After-labels-of) → c .labels-of .result ≡ counted (first (c .before .before .before)) (rest (c .before .before .before))
+labels-are c = let l = c .before .before .before .args .cells .now in c .labels-of .ensures ∙ ap (λ (i : ℕ). counted (getD l i empty) (drop i l)) (c .before .before .leading .ensures)
 
-last-is : (c : tie.After-labels-from) → c .labels-from .result .last ≡ greatest (first (c .before .before .before)) (rest (c .before .before .before))
+last-is : (c : tie.After-labels-of) → c .labels-of .result .last ≡ greatest (first (c .before .before .before)) (rest (c .before .before .before))
 unfolding counted
 last-is c = ap (λ (x : Labels). x .last) (labels-are c)
 
-count-is : (c : tie.After-labels-from) → c .labels-from .result .count ≡ pos (suc (rises (first (c .before .before .before)) (rest (c .before .before .before))))
+count-is : (c : tie.After-labels-of) → c .labels-of .result .count ≡ pos (suc (rises (first (c .before .before .before)) (rest (c .before .before .before))))
 unfolding counted
 count-is c = ap (λ (x : Labels). x .count) (labels-are c)
 
 few : (c : tie.Start) → rises (first c) (rest c) ≤ 1048576
 few c = rises-few (c .args .period) (c .args .distance) (c .args .cells .now) (c .pre)
 
-count-fits : (c : tie.After-labels-from) → SFits w64 (c .labels-from .result .count)
+count-fits : (c : tie.After-labels-of) → SFits w64 (c .labels-of .result .count)
 count-fits c = count-is c ∴ few (c .before .before .before) ∴ simp ints (omega arith)
 
 sub-result : tie.Need-sub-result
@@ -89,16 +93,16 @@ sub-result c =
     let f = count-fits l in
     count-is l ∴ few (l .before .before .before) ∴ simp (plain, ints) (omega arith)
 
-last-fits : (c : tie.After-struct-told) → SFits w64 (c .before .before .labels-from .result .last)
+last-fits : (c : tie.After-struct-told) → SFits w64 (c .before .before .labels-of .result .last)
 last-fits c = sfits-of (c .struct-told .given .1 .0 .1)
 
 -- the test compares the last label with that of the next turn
 test : (c : tie.After-struct-told) → let l = c .before .before in
-    (ofZ w64 (l .labels-from .result .last) ≡ ofZ w64 (sum l))
+    (ofZ w64 (l .labels-of .result .last) ≡ ofZ w64 (sum l))
     ↔ (greatest (first (l .before .before .before)) (rest (l .before .before .before)) ≡ first (l .before .before .before) +ℤ pos (up (l .before .before .before .args .distance)))
 test c =
     let l = c .before .before in
-    let t = test-eq w64 (l .labels-from .result .last) (sum l) (last-fits c) (add-if1 l) in
+    let t = test-eq w64 (l .labels-of .result .last) (sum l) (last-fits c) (add-if1 l) in
     (λ e. sym (last-is l) ∙ t .0 e ∙ sum-is l, λ e. t .1 (last-is l ∙ e ∙ sym (sum-is l)))
 
 returns : tie.Need-returns
@@ -125,7 +129,7 @@ granules-spec =
     (tie.spec
     leading-requires
     wide-requires
-    labels-from-requires
+    labels-of-requires
     add-if1
     sub-result
     returns
