@@ -7,29 +7,23 @@ ghost use lib.ListN.{length};
 ghost use Rattle.calendar.specs.Meaning.{Row, empty};
 ghost use Rattle.calendar.specs.Table.{entries, outcome};
 ghost use Rattle.calendar.specs.Stored.{filled, poolAfter, headingsAfter};
+ghost use Rattle.entering.specs.Stores.{Stores, EntryDue, Entered};
 ghost use Rattle.conversion.specs.Answers.{answered};
-ghost use Rattle.conversion.specs.Stores.{Stores, EntryDue, Entered};
 ghost use Rattle.conversion.specs.Tables.{Cleared, TableDue, Ended};
 use calendar::Calendar;
 use entries::Begun;
 use entries::Reading;
 
-mod entering;
-mod naming;
-
 // How many numbers a heading has: start, period and distance.
-pub const HEADING_LENGTH: usize = 3;
+pub use entering::HEADING_LENGTH;
+
+// What converting one entry comes to: a refusal, by its number, or its row ends before that cell.
+pub use entering::Entry;
 
 // What converting a table comes to: a refusal, by its number and its entry (0 for 1 to 3), or rows and headings stand in the lists.
 pub enum Conversion {
     Refused(u32, u32),
     Converted,
-}
-
-// What converting one entry comes to: a refusal, by its number, or its row ends before that cell.
-pub enum Entry {
-    Refused(u32),
-    Ends(usize),
 }
 
 // Converts the entry k behind the rows of the entries before it, which end before the cell `used`.

@@ -22,7 +22,7 @@ use Rattle.algebra.specs.TableMeaning.TableReply.{means}
 use Rattle.algebra.proofs.Demand2.{demand-2-only, represents-length}
 use Rattle.algebra.proofs.Steps.{afterTable, outcome-is}
 use Rattle.laws.proofs.Answered.{stored-means}
-use Rattle.conversion.proofs.Cells.{drop-alike}
+use Rattle.entering.proofs.Cells.{drop-alike}
 use Rattle.conversion.proofs.Headings.{filled-behind, headings-length}
 use Rattle.conversion.proofs.LeftRows.{means-length}
 use Rattle.walked.specs.Tabled.{tabled}

@@ -1,0 +1,15 @@
+-- `naming::wide` meets its contract: a number of 32 bits fits 64.
+-- Assumes nothing.
+use borrow.Author.Needs.{needs}
+use Rattle.integers.proofs.Machine.{plain}
+use Rattle.naming.proofs.wide.Statement.{statement}
+use Rattle.naming.proofs.wide.Tie as tie
+
+cast-result : tie.Need-cast-result
+cast-result c = let x = c .fits .x in simp plain (search needs)
+
+returns : tie.Need-returns
+returns c = let x = c .fits .x in simp plain
+
+pub wide-spec : {M : Type 1} → statement M
+wide-spec = tie.close (tie.spec cast-result returns)
