@@ -4,6 +4,7 @@
 --     Cells        the cells of a pool
 --     Working      the working row as it is filled in
 --     Turns        the turns of a loop that fills it in
+--     Steps        the step of a loop over two operands
 --     Lasts        the last label up to an instant
 --     Fresh        where a label's granule begins
 --     Decided      the granule that a loop decided last
@@ -13,6 +14,7 @@ pub mod Single
 pub mod Cells
 pub mod Working
 pub mod Turns
+pub mod Steps
 pub mod Lasts
 pub mod Fresh
 pub mod Decided

@@ -38,10 +38,10 @@ pub fn fill(
         Kind::Shift(x) => singles::shifting::fill_shift(x, span, at, period, pool, a, b),
         Kind::Renumber(x) => singles::renumbering::fill_renumber(x, span, at, period, pool, a, b),
         Kind::Alter(by) => altering::fill_alter(by, span, at, period, pool, a, b),
-        Kind::Combine => pairs::combining::fill_combine(span, at, period, pool, a, b),
-        Kind::Anchor => pairs::anchoring::fill_anchor(span, at, period, pool, a, b),
+        Kind::Combine => combining::fill_combine(span, at, period, pool, a, b),
+        Kind::Anchor => anchoring::fill_anchor(span, at, period, pool, a, b),
         Kind::Select(by) => selecting::fill_select(by, span, at, period, pool, a, b),
-        Kind::ByLabels(by) => pairs::joining::fill_by_labels(by, span, at, period, pool, a, b),
+        Kind::ByLabels(by) => joining::fill_by_labels(by, span, at, period, pool, a, b),
         Kind::Bottom => bottom::fill_bottom(span, at, period, pool, a, b),
     }
 }

@@ -1,0 +1,136 @@
+// Anchor: the last label of b up to the instant, wherever a has a label.
+
+ghost use mathlib.Core.Path.{_≡_};
+ghost use mathlib.Core.Bool.{true};
+ghost use mathlib.Core.List.{_++_};
+ghost use Prim.Native.Nat.{_+_};
+ghost use lib.IntN.{pos, _+ℤ_};
+ghost use lib.Signed.{_<ℤ_};
+ghost use lib.ListN.{length, take, drop};
+ghost use Rattle.calendar.specs.Checks.{labelsInRange, poolLimit};
+ghost use Rattle.calendar.specs.Compute.{result, working};
+ghost use Rattle.calendar.specs.Questions.{given};
+ghost use Rattle.rows.specs.Found.{found};
+ghost use Rattle.operands.specs.declared.Kind.the-variants.{Anchor};
+ghost use Rattle.operands.specs.Operations.{operationOf};
+ghost use Rattle.operands.specs.Stands.{rowIn};
+ghost use Rattle.filling.specs.Given.{Given};
+ghost use Rattle.filling.specs.Placed.{Placed, filledAs};
+ghost use Rattle.anchoring.specs.Scanning.{Anchors};
+use filling::Filled;
+use filling::any;
+use filling::end_of;
+use filling::last_before;
+use filling::outcome;
+use filling::store;
+use operands::Operand;
+use rows::Cursor;
+use rows::Found;
+
+// What the loop carries: the cursors of the instant, and the last label of b before it.
+pub struct Anchoring {
+    pub a: Cursor,
+    pub b: Cursor,
+    pub number: i64,
+}
+
+// The label of an instant, and the state before the next one.
+pub struct Anchored {
+    pub label: Found,
+    pub next: Anchoring,
+}
+
+// The last label of b, up to the instant.
+fn anchor(
+    s: Anchoring,
+    t: i64,
+    a_cells: &[i32],
+    a_period: i64,
+    a_distance: i64,
+    b_cells: &[i32],
+    b_period: i64,
+    b_distance: i64,
+) -> Anchored
+    requires { ⌜ Given Anchor (given «a_period» «a_distance» (now «a_cells»)) (given «b_period» «b_distance» (now «b_cells»)) ⌝ }
+    requires { ⌜ Anchors (given «a_period» «a_distance» (now «a_cells»)) (given «b_period» «b_distance» (now «b_cells»)) t s ⌝ }
+    requires { ⌜ t <ℤ pos poolLimit ⌝ }
+    ensures label { λ r. ⌜ found (r .label) ≡ result (operationOf Anchor (given «a_period» «a_distance» (now («a_cells» .entry))) (given «b_period» «b_distance» (now («b_cells» .entry)))) t ⌝ }
+    ensures next { λ r. ⌜ Anchors (given «a_period» «a_distance» (now («a_cells» .entry))) (given «b_period» «b_distance» (now («b_cells» .entry))) (t +ℤ pos 1) (r .next) ⌝ }
+{
+    let label = rows::cursor_label(a_cells, a_period, a_distance, s.a);
+    let other = rows::cursor_label(b_cells, b_period, b_distance, s.b);
+    let mut next = s;
+    next.a = rows::cursor_next(a_cells, a_period, a_distance, s.a);
+    next.b = rows::cursor_next(b_cells, b_period, b_distance, s.b);
+    match other {
+        Found::At(k) => {
+            next.number = k;
+        }
+        Found::Nothing => {}
+    }
+    match label {
+        Found::At(_) => Anchored {
+            label: Found::At(next.number),
+            next: next,
+        },
+        Found::Nothing => Anchored {
+            label: Found::Nothing,
+            next: next,
+        },
+    }
+}
+
+// Fills the working row of an anchoring.
+pub fn fill_anchor(
+    span: i64,
+    at: usize,
+    period: usize,
+    pool: &mut [i32],
+    a: Operand,
+    b: Operand,
+) -> Filled
+    requires { ⌜ Given Anchor (rowIn (now pool) a) (rowIn (now pool) b) ⌝ }
+    requires { ⌜ Placed Anchor a b span at period (now pool) ⌝ }
+    ensures answer { λ r. ⌜ r ≡ filledAs (operationOf Anchor (rowIn (now (pool .entry)) a) (rowIn (now (pool .entry)) b)) ⌝ }
+    ensures length { λ r. ⌜ length (now (pool .exit)) ≡ length (now (pool .entry)) ⌝ }
+    ensures cells { λ r. ⌜ (labelsInRange (operationOf Anchor (rowIn (now (pool .entry)) a) (rowIn (now (pool .entry)) b)) ≡ true → now (pool .exit) ≡ take at (now (pool .entry)) ++ (working (operationOf Anchor (rowIn (now (pool .entry)) a) (rowIn (now (pool .entry)) b)) .cells ++ drop (at + period) (now (pool .entry)))) ⌝ }
+{
+    let a_start = a.start;
+    let a_end = end_of(a, at);
+    let a_period = a.period;
+    let a_distance = a.distance;
+    let b_start = b.start;
+    let b_end = end_of(b, at);
+    let b_period = b.period;
+    let b_distance = b.distance;
+    let c = rows::cursor_at(&pool[a_start..a_end], a_period, a_distance, 0);
+    let d = rows::cursor_at(&pool[b_start..b_end], b_period, b_distance, 0);
+    let number = last_before(&pool[b_start..b_end], b_period, b_distance);
+    let mut s = Anchoring {
+        a: c,
+        b: d,
+        number: number,
+    };
+    let mut labelled = false;
+    let mut t = 0;
+    while t < period {
+        let stepped = anchor(
+            s,
+            t as i64,
+            &pool[a_start..a_end],
+            a_period,
+            a_distance,
+            &pool[b_start..b_end],
+            b_period,
+            b_distance,
+        );
+        let label = stepped.label;
+        if !store(label, at + t, &mut *pool) {
+            return Filled::OutOfRange;
+        }
+        labelled = any(labelled, label);
+        s = stepped.next;
+        t += 1;
+    }
+    outcome(labelled)
+}

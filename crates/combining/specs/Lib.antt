@@ -1,0 +1,3 @@
+-- The loop of combine.
+--     Lying        a granule of b lies in one of a
+pub mod Lying

@@ -1,0 +1,151 @@
+// Combine: the labels of a, wherever b's granule lies in a's.
+
+ghost use mathlib.Core.Path.{_≡_};
+ghost use mathlib.Core.Bool.{true};
+ghost use mathlib.Core.Option.{some};
+ghost use mathlib.Core.List.{_++_};
+ghost use Prim.Native.Nat.{_+_, _^_};
+ghost use lib.ListN.{length, take, drop};
+ghost use Rattle.calendar.specs.Meaning.{meant};
+ghost use Rattle.calendar.specs.Checks.{labelsInRange};
+ghost use Rattle.calendar.specs.Compute.{working};
+ghost use Rattle.calendar.specs.Lists.{first};
+ghost use Rattle.calendar.specs.Granules.{granule};
+ghost use Rattle.calendar.specs.Questions.{given};
+ghost use Rattle.rows.specs.Found.{Sound, Within};
+ghost use Rattle.rows.specs.Cursor.{cursorAt};
+ghost use Rattle.operands.specs.declared.Kind.the-variants.{Combine};
+ghost use Rattle.operands.specs.Operations.{operationOf};
+ghost use Rattle.operands.specs.Stands.{rowIn};
+ghost use Rattle.filling.specs.Given.{Given};
+ghost use Rattle.filling.specs.Placed.{Placed, filledAs};
+ghost use Rattle.combining.specs.Lying.{liesAt};
+use filling::Filled;
+use filling::any;
+use filling::end_of;
+use filling::outcome;
+use filling::store;
+use operands::Operand;
+use rows::Cursor;
+use rows::Found;
+use walks::Place;
+
+// Whether b's granule k lies in a's granule of t, which is one of its instants: its first one, where it is fresh.
+fn lies(
+    fresh: bool,
+    k: i64,
+    t: i64,
+    a: Cursor,
+    b: Cursor,
+    a_cells: &[i32],
+    a_period: i64,
+    a_distance: i64,
+    b_cells: &[i32],
+    b_period: i64,
+    b_distance: i64,
+) -> bool
+    requires { ⌜ Sound «a_period» «a_distance» (now «a_cells») ⌝ }
+    requires { ⌜ Sound «b_period» «b_distance» (now «b_cells») ⌝ }
+    requires { ⌜ Within (2 ^ 59) t ⌝ }
+    requires { ⌜ meant (given «b_period» «b_distance» (now «b_cells»)) t ≡ some k ⌝ }
+    requires { ⌜ a ≡ cursorAt (given «a_period» «a_distance» (now «a_cells»)) t ⌝ }
+    requires { ⌜ b ≡ cursorAt (given «b_period» «b_distance» (now «b_cells»)) t ⌝ }
+    requires { ⌜ (fresh ≡ true → t ≡ first (granule (given «b_period» «b_distance» (now «b_cells»)) k)) ⌝ }
+    ensures { λ r. ⌜ r ≡ liesAt (given «a_period» «a_distance» (now («a_cells» .entry))) (given «b_period» «b_distance» (now («b_cells» .entry))) k t ⌝ }
+{
+    let outer = rows::cursor_label(a_cells, a_period, a_distance, a);
+    let Found::At(i) = outer else {
+        return false;
+    };
+    let place = Place { b, k, a, i };
+    if fresh {
+        walks::inside_from_first(
+            b_cells,
+            b_period,
+            b_distance,
+            a_cells,
+            a_period,
+            a_distance,
+            place,
+        )
+    } else {
+        walks::inside_at(
+            b_cells,
+            b_period,
+            b_distance,
+            a_cells,
+            a_period,
+            a_distance,
+            place,
+        )
+    }
+}
+
+// Fills the working row of a combination. Each granule of b is decided where its first label shows.
+pub fn fill_combine(
+    span: i64,
+    at: usize,
+    period: usize,
+    pool: &mut [i32],
+    a: Operand,
+    b: Operand,
+) -> Filled
+    requires { ⌜ Given Combine (rowIn (now pool) a) (rowIn (now pool) b) ⌝ }
+    requires { ⌜ Placed Combine a b span at period (now pool) ⌝ }
+    ensures answer { λ r. ⌜ r ≡ filledAs (operationOf Combine (rowIn (now (pool .entry)) a) (rowIn (now (pool .entry)) b)) ⌝ }
+    ensures length { λ r. ⌜ length (now (pool .exit)) ≡ length (now (pool .entry)) ⌝ }
+    ensures cells { λ r. ⌜ (labelsInRange (operationOf Combine (rowIn (now (pool .entry)) a) (rowIn (now (pool .entry)) b)) ≡ true → now (pool .exit) ≡ take at (now (pool .entry)) ++ (working (operationOf Combine (rowIn (now (pool .entry)) a) (rowIn (now (pool .entry)) b)) .cells ++ drop (at + period) (now (pool .entry)))) ⌝ }
+{
+    let a_start = a.start;
+    let a_end = end_of(a, at);
+    let a_period = a.period;
+    let a_distance = a.distance;
+    let b_start = b.start;
+    let b_end = end_of(b, at);
+    let b_period = b.period;
+    let b_distance = b.distance;
+    let mut c = rows::cursor_at(&pool[a_start..a_end], a_period, a_distance, 0);
+    let mut d = rows::cursor_at(&pool[b_start..b_end], b_period, b_distance, 0);
+    let mut decided = false;
+    let mut of: i64 = 0;
+    let mut holds = false;
+    let mut labelled = false;
+    let mut t = 0;
+    while t < period {
+        let inner = rows::cursor_label(&pool[b_start..b_end], b_period, b_distance, d);
+        let mut kept = Found::Nothing;
+        match inner {
+            Found::At(k) => {
+                if !decided || of != k {
+                    holds = lies(
+                        decided,
+                        k,
+                        t as i64,
+                        c,
+                        d,
+                        &pool[a_start..a_end],
+                        a_period,
+                        a_distance,
+                        &pool[b_start..b_end],
+                        b_period,
+                        b_distance,
+                    );
+                    decided = true;
+                    of = k;
+                }
+                if holds {
+                    kept = rows::cursor_label(&pool[a_start..a_end], a_period, a_distance, c);
+                }
+            }
+            Found::Nothing => {}
+        }
+        if !store(kept, at + t, &mut *pool) {
+            return Filled::OutOfRange;
+        }
+        labelled = any(labelled, kept);
+        c = rows::cursor_next(&pool[a_start..a_end], a_period, a_distance, c);
+        d = rows::cursor_next(&pool[b_start..b_end], b_period, b_distance, d);
+        t += 1;
+    }
+    outcome(labelled)
+}

@@ -1,0 +1,13 @@
+-- What holds of the loop's state before the instant t, which is one of a working row or next to it.
+use mathlib.Core.Path.{_≡_}
+use lib.IntN.{ℤ, pos}
+use lib.Signed.{_≤ℤ_}
+use Rattle.calendar.specs.Meaning.{Row}
+use Rattle.calendar.specs.Checks.{poolLimit}
+use Rattle.rows.specs.Cursor.{cursorAt}
+use Rattle.joining.specs.declared.Joining.{Joining}
+
+pub record Joins (a b : Row) (t : ℤ) (s : Joining) : Type 0 where
+  pub low : pos 0 ≤ℤ t
+  pub high : t ≤ℤ pos poolLimit
+  pub cursors : (s .a ≡ cursorAt a t) × (s .b ≡ cursorAt b t)

@@ -1,0 +1,142 @@
+// Union, intersection and difference: the two labels of the instant decide its label.
+
+ghost use mathlib.Core.Path.{_≡_};
+ghost use mathlib.Core.Bool.{true};
+ghost use mathlib.Core.List.{_++_};
+ghost use Prim.Native.Nat.{_+_};
+ghost use lib.IntN.{pos, _+ℤ_};
+ghost use lib.Signed.{_<ℤ_};
+ghost use lib.ListN.{length, take, drop};
+ghost use Rattle.calendar.specs.Checks.{labelsInRange, poolLimit};
+ghost use Rattle.calendar.specs.Compute.{result, working};
+ghost use Rattle.calendar.specs.Questions.{given};
+ghost use Rattle.rows.specs.Found.{found};
+ghost use Rattle.operands.specs.declared.Kind.the-variants.{ByLabels};
+ghost use Rattle.operands.specs.Operations.{operationOf};
+ghost use Rattle.operands.specs.Stands.{rowIn};
+ghost use Rattle.filling.specs.Given.{Given};
+ghost use Rattle.filling.specs.Placed.{Placed, filledAs};
+ghost use Rattle.joining.specs.Joined.{joinedLabel};
+ghost use Rattle.joining.specs.Scanning.{Joins};
+use filling::Filled;
+use filling::any;
+use filling::end_of;
+use filling::outcome;
+use filling::store;
+use operands::Operand;
+use operands::SetOperation;
+use rows::Cursor;
+use rows::Found;
+
+// What the loop carries: the cursors of the instant.
+pub struct Joining {
+    pub a: Cursor,
+    pub b: Cursor,
+}
+
+// The label of an instant, and the state before the next one.
+pub struct Stepped {
+    pub label: Found,
+    pub next: Joining,
+}
+
+// The label that a set operation gives an instant with the labels x in a and y in b.
+fn joined(by: SetOperation, x: Found, y: Found) -> Found
+    ensures { λ r. ⌜ found r ≡ joinedLabel by (found x) (found y) ⌝ }
+{
+    match by {
+        SetOperation::Union => match x {
+            Found::At(_) => x,
+            Found::Nothing => y,
+        },
+        SetOperation::Intersection => match y {
+            Found::At(_) => x,
+            Found::Nothing => Found::Nothing,
+        },
+        SetOperation::Difference => match y {
+            Found::At(_) => Found::Nothing,
+            Found::Nothing => x,
+        },
+    }
+}
+
+// The label of the instant, by its labels in a and in b.
+fn by_labels(
+    by: SetOperation,
+    s: Joining,
+    t: i64,
+    a_cells: &[i32],
+    a_period: i64,
+    a_distance: i64,
+    b_cells: &[i32],
+    b_period: i64,
+    b_distance: i64,
+) -> Stepped
+    requires { ⌜ Given (ByLabels by) (given «a_period» «a_distance» (now «a_cells»)) (given «b_period» «b_distance» (now «b_cells»)) ⌝ }
+    requires { ⌜ Joins (given «a_period» «a_distance» (now «a_cells»)) (given «b_period» «b_distance» (now «b_cells»)) t s ⌝ }
+    requires { ⌜ t <ℤ pos poolLimit ⌝ }
+    ensures label { λ r. ⌜ found (r .label) ≡ result (operationOf (ByLabels by) (given «a_period» «a_distance» (now («a_cells» .entry))) (given «b_period» «b_distance» (now («b_cells» .entry)))) t ⌝ }
+    ensures next { λ r. ⌜ Joins (given «a_period» «a_distance» (now («a_cells» .entry))) (given «b_period» «b_distance» (now («b_cells» .entry))) (t +ℤ pos 1) (r .next) ⌝ }
+{
+    let label = rows::cursor_label(a_cells, a_period, a_distance, s.a);
+    let other = rows::cursor_label(b_cells, b_period, b_distance, s.b);
+    let mut next = s;
+    next.a = rows::cursor_next(a_cells, a_period, a_distance, s.a);
+    next.b = rows::cursor_next(b_cells, b_period, b_distance, s.b);
+    Stepped {
+        label: joined(by, label, other),
+        next: next,
+    }
+}
+
+// Fills the working row of a set operation.
+pub fn fill_by_labels(
+    by: SetOperation,
+    span: i64,
+    at: usize,
+    period: usize,
+    pool: &mut [i32],
+    a: Operand,
+    b: Operand,
+) -> Filled
+    requires { ⌜ Given (ByLabels by) (rowIn (now pool) a) (rowIn (now pool) b) ⌝ }
+    requires { ⌜ Placed (ByLabels by) a b span at period (now pool) ⌝ }
+    ensures answer { λ r. ⌜ r ≡ filledAs (operationOf (ByLabels by) (rowIn (now (pool .entry)) a) (rowIn (now (pool .entry)) b)) ⌝ }
+    ensures length { λ r. ⌜ length (now (pool .exit)) ≡ length (now (pool .entry)) ⌝ }
+    ensures cells { λ r. ⌜ (labelsInRange (operationOf (ByLabels by) (rowIn (now (pool .entry)) a) (rowIn (now (pool .entry)) b)) ≡ true → now (pool .exit) ≡ take at (now (pool .entry)) ++ (working (operationOf (ByLabels by) (rowIn (now (pool .entry)) a) (rowIn (now (pool .entry)) b)) .cells ++ drop (at + period) (now (pool .entry)))) ⌝ }
+{
+    let a_start = a.start;
+    let a_end = end_of(a, at);
+    let a_period = a.period;
+    let a_distance = a.distance;
+    let b_start = b.start;
+    let b_end = end_of(b, at);
+    let b_period = b.period;
+    let b_distance = b.distance;
+    let c = rows::cursor_at(&pool[a_start..a_end], a_period, a_distance, 0);
+    let d = rows::cursor_at(&pool[b_start..b_end], b_period, b_distance, 0);
+    let mut s = Joining { a: c, b: d };
+    let mut labelled = false;
+    let mut t = 0;
+    while t < period {
+        let stepped = by_labels(
+            by,
+            s,
+            t as i64,
+            &pool[a_start..a_end],
+            a_period,
+            a_distance,
+            &pool[b_start..b_end],
+            b_period,
+            b_distance,
+        );
+        let label = stepped.label;
+        if !store(label, at + t, &mut *pool) {
+            return Filled::OutOfRange;
+        }
+        labelled = any(labelled, label);
+        s = stepped.next;
+        t += 1;
+    }
+    outcome(labelled)
+}
