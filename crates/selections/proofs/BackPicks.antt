@@ -8,12 +8,12 @@ use lib.Signed.{_≤ℤ_, _<ℤ_}
 use lib.ListN.{length}
 use Rattle.integers.proofs.Linear.{ints, _∴_}
 use Rattle.calendar.specs.Algebra.{Rising, positions, pickStart}
+use Rattle.tallies.specs.Tallies.{firstOr, lastOr, tallyBackOf}
+use Rattle.tallies.proofs.BackPositions.{positions-reverse, first-reverse, last-reverse}
 use Rattle.selections.specs.declared.Pick.{Pick}
 use Rattle.selections.specs.declared.Picked.{Picked}
 use Rattle.selections.specs.Memos.{Picks}
-use Rattle.selections.specs.Tallies.{firstOr, lastOr, tallyBackOf}
 use Rattle.selections.proofs.Starts.{start-below, picks}
-use Rattle.selections.proofs.BackPositions.{positions-reverse, first-reverse, last-reverse}
 
 -- the positions from n + x + 1 to n + x + y are those from 1 - x - y to -x from the end
 module _ (p : Pick) (l : List ℤ) (r : Rising l) (below : p .x <ℤ pos 0) (above : pos 1 ≤ℤ p .y) where

@@ -13,12 +13,12 @@ use Rattle.integers.proofs.Linear.{ints, _∴_}
 use Rattle.integers.proofs.Order.{pos-up}
 use Rattle.calendar.specs.Algebra.{Rising, positions, pickStart, pick}
 use Rattle.calendar.specs.Lists.{any, equal}
+use Rattle.tallies.specs.Tallies.{firstOr, lastOr}
+use Rattle.tallies.proofs.Positions.{mem-any, ends-taken, at-positions}
 use Rattle.selections.specs.declared.Pick.{Pick}
 use Rattle.selections.specs.declared.Picked.{Picked}
 use Rattle.selections.specs.Memos as Memos
 use Rattle.selections.specs.Memos.{Picks}
-use Rattle.selections.specs.Tallies.{firstOr, lastOr}
-use Rattle.selections.proofs.Positions.{mem-any, ends-taken, at-positions}
 
 pub start-above : (x : ℤ) (n : ℕ) → pos 0 <ℤ x → pickStart x n ≡ x
 start-above (pos x) n h = refl

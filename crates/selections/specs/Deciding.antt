@@ -7,11 +7,12 @@ use Rattle.calendar.specs.Meaning.{Row}
 use Rattle.calendar.specs.Algebra.{pick}
 use Rattle.calendar.specs.Lists.{any, equal}
 use Rattle.calendar.specs.Compute.{selects}
+use Rattle.tallies.specs.Tallies.{candidates}
 use Rattle.selections.specs.declared.Pick.{Pick}
 use Rattle.selections.specs.declared.Decision.{Decision}
 use Rattle.selections.specs.declared.Selection.{Selection}
 use Rattle.selections.specs.declared.Selection.the-variants.{Down, Up, Intersecting}
-use Rattle.selections.specs.Memos.{candidates, flagOf, selectionOf, Remembers}
+use Rattle.selections.specs.Memos.{flagOf, selectionOf, Remembers}
 
 -- Pick takes a's granule j for b's granule i
 abbrev pub takes : Pick → Bool → Row → Row → ℤ → ℤ → Bool

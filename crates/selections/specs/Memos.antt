@@ -10,8 +10,8 @@ use Rattle.calendar.specs.Operation as Operation
 use Rattle.calendar.specs.Operation.{Selection as Selections}
 use Rattle.calendar.specs.Algebra.{pick}
 use Rattle.calendar.specs.Lists.{any, equal}
-use Rattle.calendar.specs.Granules.{within, meeting}
 use Rattle.calendar.specs.Table.{million}
+use Rattle.tallies.specs.Tallies.{candidates}
 use Rattle.selections.specs.declared.Pick.{Pick}
 use Rattle.selections.specs.declared.Picked.{Picked}
 use Rattle.selections.specs.declared.Selection.{Selection}
@@ -36,11 +36,6 @@ Picking (Down p) = PickLimits p
 Picking Up = Unit {0}
 Picking (Intersecting p) = PickLimits p
 
--- the labels of a's granules of which Pick takes some for b's granule i: of those inside it, or of those that meet it
-abbrev pub candidates : Bool → Row → Row → ℤ → List ℤ
-candidates true a b i = within a b i
-candidates false a b i = meeting a b i
-
 -- a test as a number: 1 where it holds, 0 where not
 abbrev pub flagOf : Bool → ℤ
 flagOf true = pos 1
@@ -49,6 +44,10 @@ flagOf false = pos 0
 -- j is among what was picked
 abbrev pub taken : Picked → ℤ → Bool
 taken m j = leZ (m .low) j && leZ j (m .high)
+
+-- what is picked for b's granule i
+abbrev pub pickedOf : ℤ → ℤ → ℤ → Picked
+pickedOf i low high = record { known = pos 1; of = i; low = low; high = high }
 
 -- Pick takes of l what was picked; where anything is, the first and the last of it are in l
 pub record Picks (p : Pick) (l : List ℤ) (m : Picked) : Type 0 where

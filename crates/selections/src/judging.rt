@@ -10,15 +10,16 @@ ghost use Rattle.calendar.specs.Granules.{granule};
 ghost use Rattle.calendar.specs.Questions.{given};
 ghost use Rattle.rows.specs.Found.{Sound, Within};
 ghost use Rattle.rows.specs.Cursor.{cursorAt};
-ghost use Rattle.selections.specs.Memos.{PickLimits, Picks, Recalls, candidates};
+ghost use Rattle.tallies.specs.Tallies.{candidates};
+ghost use Rattle.selections.specs.Memos.{PickLimits, Picks, Recalls};
 ghost use Rattle.selections.specs.Deciding.{takes, selectionBy, Decides};
 ghost use Rattle.selections.specs.Meeting.{SeenAt, StartsAt};
 use super::Decision;
 use super::Pick;
 use super::Picked;
-use super::ends::Instant;
 use rows::Cursor;
 use rows::Found;
+use tallies::ends::Instant;
 use walks::Place;
 
 // What an instant says of a's granule j.
@@ -158,7 +159,7 @@ fn start_of(
             other: b,
         };
     }
-    super::ends::began(
+    tallies::ends::began(
         fresh,
         j,
         t,

@@ -19,8 +19,6 @@ ghost use Rattle.selections.specs.declared.Pick.{Pick};
 ghost use Rattle.selections.specs.declared.Selection.the-variants.{Down, Intersecting};
 use rows::Cursor;
 
-mod counting;
-mod ends;
 mod judging;
 mod taking;
 mod up;

@@ -9,11 +9,10 @@ ghost use Rattle.calendar.specs.Meaning.{meant};
 ghost use Rattle.calendar.specs.Questions.{given};
 ghost use Rattle.rows.specs.Found.{Sound, Within};
 ghost use Rattle.rows.specs.Cursor.{cursorAt};
-ghost use Rattle.selections.specs.Memos.{PickLimits, candidates, Picks};
-ghost use Rattle.selections.specs.Tallies.{pickedOf};
+ghost use Rattle.tallies.specs.Tallies.{candidates};
+ghost use Rattle.selections.specs.Memos.{PickLimits, Picks, pickedOf};
 use super::Pick;
 use super::Picked;
-use super::counting;
 use rows::Cursor;
 
 // What Pick takes for b's granule i, between two labels.
@@ -55,7 +54,7 @@ fn picked_from_first(
     ensures known { λ r. ⌜ (r .known ≡ pos 1) × (r .of ≡ i) ⌝ }
     ensures picks { λ r. ⌜ Picks pick (candidates whole (given «a_period» «a_distance» (now («a_cells» .entry))) (given «b_period» «b_distance» (now («b_cells» .entry))) i) r ⌝ }
 {
-    let first = super::ends::first_of(
+    let first = tallies::ends::first_of(
         i,
         t,
         b,
@@ -67,7 +66,7 @@ fn picked_from_first(
         a_period,
         a_distance,
     );
-    let tally = counting::tallied(
+    let tally = tallies::tallied(
         whole,
         i,
         first.at,
@@ -111,7 +110,7 @@ fn picked_from_last(
     ensures known { λ r. ⌜ (r .known ≡ pos 1) × (r .of ≡ i) ⌝ }
     ensures picks { λ r. ⌜ Picks pick (candidates whole (given «a_period» «a_distance» (now («a_cells» .entry))) (given «b_period» «b_distance» (now («b_cells» .entry))) i) r ⌝ }
 {
-    let last = super::ends::last_of(
+    let last = tallies::ends::last_of(
         i,
         t,
         b,
@@ -123,7 +122,7 @@ fn picked_from_last(
         a_period,
         a_distance,
     );
-    let tally = counting::tallied_back(
+    let tally = tallies::tallied_back(
         whole,
         i,
         last.at,

@@ -163,7 +163,7 @@ pub fn holds_granule(
     requires { ⌜ (fresh ≡ true → t ≡ L.first (granule (given «a_period» «a_distance» (now «a_cells»)) j)) ⌝ }
     ensures { λ r. ⌜ r ≡ selects select-up (given «a_period» «a_distance» (now («a_cells» .entry))) (given «b_period» «b_distance» (now («b_cells» .entry))) j ⌝ }
 {
-    let start = super::ends::began(
+    let start = tallies::ends::began(
         fresh,
         j,
         t,

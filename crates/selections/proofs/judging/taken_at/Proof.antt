@@ -20,7 +20,8 @@ use Rattle.rows.proofs.Numbers.{valid}
 use Rattle.walks.specs.declared.Place.{Place}
 use Rattle.walks.specs.Sides.{Stands}
 use Rattle.walks.proofs.Places.{stands}
-use Rattle.selections.specs.Memos.{candidates, taken, Picks}
+use Rattle.tallies.specs.Tallies.{candidates}
+use Rattle.selections.specs.Memos.{taken, Picks}
 use Rattle.selections.specs.Deciding.{takes}
 use Rattle.selections.proofs.Decisions.{not-taken, taken-is, taken-low, taken-high, meets, lies}
 use Rattle.selections.proofs.judging.taken_at.Statement.{statement}

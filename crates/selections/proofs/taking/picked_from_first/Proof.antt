@@ -18,12 +18,12 @@ use Rattle.granules.specs.Valid.{Valid}
 use Rattle.granules.proofs.Questions.{first-at-most}
 use Rattle.rows.proofs.Numbers.{valid}
 use Rattle.rows.proofs.Bounds.{first-bounds}
+use Rattle.tallies.specs.Tallies.{candidates, Begins, tallyOf}
+use Rattle.tallies.proofs.Tallying.{tally-fields}
+use Rattle.tallies.proofs.Candidates.{candidates-lists}
 use Rattle.selections.specs.declared.Picked.{Picked}
-use Rattle.selections.specs.Memos.{candidates}
-use Rattle.selections.specs.Tallies.{Begins, tallyOf, pickedOf}
-use Rattle.selections.proofs.Tallying.{tally-fields}
+use Rattle.selections.specs.Memos.{pickedOf}
 use Rattle.selections.proofs.Starts.{start-above, picks}
-use Rattle.selections.proofs.Candidates.{candidates-lists}
 use Rattle.selections.proofs.taking.picked_from_first.Statement.{statement}
 use Rattle.selections.proofs.taking.picked_from_first.Tie as tie
 

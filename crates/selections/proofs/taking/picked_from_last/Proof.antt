@@ -18,10 +18,9 @@ use Rattle.granules.specs.Valid.{Valid}
 use Rattle.granules.proofs.Questions.{last-at-least}
 use Rattle.rows.proofs.Numbers.{valid}
 use Rattle.rows.proofs.Bounds.{last-bounds}
+use Rattle.tallies.specs.Tallies.{candidates, Ends, tallyBackOf}
+use Rattle.tallies.proofs.Candidates.{candidates-lists}
 use Rattle.selections.specs.declared.Picked.{Picked}
-use Rattle.selections.specs.Memos.{candidates}
-use Rattle.selections.specs.Tallies.{Ends, tallyBackOf}
-use Rattle.selections.proofs.Candidates.{candidates-lists}
 use Rattle.selections.proofs.BackPicks.{back-picks}
 use Rattle.selections.proofs.taking.picked_from_last.Statement.{statement}
 use Rattle.selections.proofs.taking.picked_from_last.Tie as tie

@@ -13,8 +13,9 @@ use Rattle.integers.proofs.Machine.{plain}
 use Rattle.calendar.specs.Meaning.{meant}
 use Rattle.calendar.specs.Lists.{equal}
 use Rattle.granules.proofs.Tests.{and-iff, equal-iff}
+use Rattle.tallies.specs.Tallies.{candidates}
 use Rattle.selections.specs.declared.Picked.{Picked}
-use Rattle.selections.specs.Memos.{candidates, Picks, Recalls}
+use Rattle.selections.specs.Memos.{Picks, Recalls}
 use Rattle.selections.proofs.Decisions.{recalls, judges}
 use Rattle.selections.proofs.Meetings.{walk-early}
 use Rattle.selections.proofs.judging.judged.Proof.Begun.{Inv-loop, μ-loop, J, a-row, b-row, a-sound, b-sound, a-rules, b-rules, F, begins}
