@@ -15,8 +15,8 @@ use Rattle.calendar.specs.Granules.{has, within}
 use Rattle.calendar.specs.Checks.{sound, inRange}
 use Rattle.calendar.specs.Questions.{madeUp, down}
 use Rattle.granules.proofs.Tests.{false-iff, leb-iff}
+use Rattle.parts.proofs.Shown.{Shows, shows-filled}
 use Rattle.questions.specs.Answers.{counted, partsAfter}
-use Rattle.questions.proofs.Cleared.{Shows, shows-filled}
 
 -- ---- the checks, in their order
 

@@ -22,12 +22,12 @@ use Rattle.granules.proofs.Inside.{within-lists}
 use Rattle.granules.proofs.Questions.{madeUp-iff}
 use Rattle.rows.specs.declared.Cursor.{Cursor}
 use Rattle.rows.specs.Cursor.{cursorAt}
-use Rattle.questions.specs.declared.down.Part.the-variants.{Broken}
-use Rattle.questions.specs.declared.down.Walked.{Walked}
-use Rattle.questions.specs.declared.down.Walked.the-variants.{Parts, Incomplete}
-use Rattle.questions.specs.Walk.{Begins, Least, PartAt, EndAt, Walks}
-use Rattle.questions.proofs.Cleared.{Shows}
-use Rattle.questions.proofs.Walk.{Walk, has-part}
+use Rattle.parts.specs.declared.Part.the-variants.{Broken}
+use Rattle.parts.specs.declared.Walked.{Walked}
+use Rattle.parts.specs.declared.Walked.the-variants.{Parts, Incomplete}
+use Rattle.parts.specs.Walk.{Begins, Least, PartAt, EndAt, Walks}
+use Rattle.parts.proofs.Shown.{Shows}
+use Rattle.parts.proofs.Walk.{Walk, has-part}
 
 module _ {h g : Row} (v : Valid h) (w : Valid g) {z t : ℤ} (b : Begins h z t) where
   -- an instant of the granule and one outside it have the same label in g

@@ -21,9 +21,9 @@ use Rattle.granules.proofs.Calendars.{label-moved}
 use Rattle.granules.proofs.Rows.{meant-repeats}
 use Rattle.rows.specs.declared.Cursor.{Cursor}
 use Rattle.rows.specs.Cursor.{cursorAt}
-use Rattle.questions.specs.Walk.{Begins, Greatest}
-use Rattle.questions.proofs.Cleared.{Shows}
-use Rattle.questions.proofs.WalkGaps.{ahead, falls}
+use Rattle.parts.specs.Walk.{Begins, Greatest}
+use Rattle.parts.proofs.Shown.{Shows}
+use Rattle.parts.proofs.WalkGaps.{ahead, falls}
 
 -- k is the label in g of an instant of the granule z of h up to u
 abbrev pub Seen : Row → Row → ℤ → ℤ → ℤ → Type 0

@@ -1,4 +1,4 @@
--- `questions::down::part_at` meets its contract: the label in h is looked at, then that in g.
+-- `parts::part_at` meets its contract: the label in h is looked at, then that in g.
 -- Assumes nothing.
 use borrow.Author.Needs.{needs, sfits-of}
 use mathlib.Core.Path.{_≡_, sym, _∙_, ap, subst}
@@ -10,10 +10,10 @@ use mir.Syntax.{w64}
 use mir.Val.{SFits}
 use Rattle.integers.proofs.Machine.{test-eq}
 use Rattle.rows.specs.Found.{found}
-use Rattle.questions.specs.declared.down.Part.the-variants.{Outside, Next}
-use Rattle.questions.specs.Walk.{PartAt}
-use Rattle.questions.proofs.down.part_at.Statement.{statement}
-use Rattle.questions.proofs.down.part_at.Tie as tie
+use Rattle.parts.specs.declared.Part.the-variants.{Outside, Next}
+use Rattle.parts.specs.Walk.{PartAt}
+use Rattle.parts.proofs.part_at.Statement.{statement}
+use Rattle.parts.proofs.part_at.Tie as tie
 
 -- ---- outside the granule
 

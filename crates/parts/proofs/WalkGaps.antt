@@ -20,7 +20,7 @@ use Rattle.rows.specs.declared.Cursor.{Cursor}
 use Rattle.rows.specs.Found.{Within}
 use Rattle.rows.specs.Cursor.{cursorAt}
 use Rattle.walks.proofs.Places.{instant-is}
-use Rattle.questions.specs.Walk.{Placed, Greatest, Least}
+use Rattle.parts.specs.Walk.{Placed, Greatest, Least}
 
 -- back from s: it stands at u, and no instant behind u up to s has a label
 pub record GapBack (r : Row) (s : ℤ) (c : Cursor) (u : ℤ) : Type 0 where

@@ -15,8 +15,8 @@ use Rattle.rows.specs.declared.Cursor.{Cursor}
 use Rattle.rows.specs.Found.{Within}
 use Rattle.rows.specs.Cursor.{cursorAt}
 use Rattle.walks.specs.Places.{instant}
-use Rattle.questions.specs.declared.down.Part as Part
-use Rattle.questions.specs.declared.down.Walked as Walked
+use Rattle.parts.specs.declared.Part as Part
+use Rattle.parts.specs.declared.Walked as Walked
 
 -- t is the first instant of the granule z, with room for a walk of a turn
 pub record Begins (h : Row) (z t : ℤ) : Type 0 where
