@@ -1,4 +1,6 @@
 -- `selecting::fill_select` meets its contract: each turn of the loop writes the cell of one instant, whose granule is decided where its first label shows.
+--     Begun        before the loop: its invariant, and the rows that are lent
+--     Turning      a turn: what its step finds, and what holds behind it
 -- Assumes nothing.
 use borrow.Author.Needs.{needs}
 use borrow.Author.Tests.{not-true}
@@ -16,9 +18,11 @@ use Rattle.rows.specs.Cursor.{Standing}
 use Rattle.filling.proofs.Turns.{turn-instant, turn-out, turn-done}
 use Rattle.filling.proofs.Decided.{knows-next}
 use Rattle.selecting.proofs.Chosen.{recalls-none}
-use Rattle.selecting.proofs.fill_select.Proof.Turning.{Inv-loop, μ-loop, by, old, a-row, b-row, start, as-filled, a-sound, b-sound, a-valid, test-of, a-part, b-part, near-zero, base, instant, turn-of, same, index, near, kept, turn-at, loop-at, label, label-fits, label-some, fresh-at, Asks, chosen, met, in-of, at-of, stored, turned, same-stored, kept-stored, a-next, b-next}
+use Rattle.selecting.proofs.fill_select.Proof.Begun.{Inv-loop, μ-loop, by, old, a-row, b-row, start, as-filled, a-sound, b-sound, a-valid, test-of, a-part, b-part}
+use Rattle.selecting.proofs.fill_select.Proof.Turning.{near-zero, base, instant, turn-of, same, index, near, kept, turn-at, loop-at, label, label-fits, label-some, fresh-at, Asks, chosen, met, in-of, at-of, stored, turned, same-stored, kept-stored, a-next, b-next}
 use Rattle.selecting.proofs.fill_select.Statement.{statement}
 use Rattle.selecting.proofs.fill_select.Tie as tie
+mod Begun
 mod Turning
 
 -- ---- the rows that are lent

@@ -1,15 +1,15 @@
--- The loop of a selection: what holds before an instant, what its step finds, and what holds behind it.
+-- A turn of the loop of `selecting::fill_select`: what holds before an instant, what its step finds, and what holds behind it.
 -- Assumes nothing.
 use borrow.Author.Needs.{sfits-of}
 use borrow.Author.Tests.{not-true, not-false, eqb-true, eqb-false}
-use mathlib.Core.Path.{_≡_, refl, sym, _∙_, ap}
+use mathlib.Core.Path.{_≡_, sym, _∙_, ap}
 use mathlib.Core.Logic.{⊎-elim}
 use mathlib.Core.Option.{Option, none, some}
-use mathlib.Core.Bool.{Bool, true, false}
+use mathlib.Core.Bool.{Bool, true}
 use mathlib.Core.List.{List}
-use Prim.Native.Nat.{ℕ, _+_, _-_, _^_, _≤_, _<_}
+use Prim.Native.Nat.{ℕ, _+_, _^_, _≤_, _<_}
 use native.Mathlib.Omega.{arith}
-use lib.IntN.{ℤ, pos, _+ℤ_, _-ℤ_}
+use lib.IntN.{ℤ, pos, _+ℤ_}
 use lib.Dec.{eqb}
 use lib.ListN.{length}
 use mir.Facts.{toZ-ofZ}
@@ -19,116 +19,28 @@ use Rattle.integers.proofs.Linear.{ints, _∴_}
 use Rattle.calendar.specs.Meaning.{Row, meant}
 use Rattle.calendar.specs.Lists.{first, only}
 use Rattle.calendar.specs.Granules.{granule}
-use Rattle.calendar.specs.Compute.{selects}
 use Rattle.calendar.specs.Checks.{sound}
-use Rattle.granules.specs.Valid.{Valid}
 use Rattle.granules.proofs.Tests.{true≢false}
 use Rattle.rows.specs.Found.{found, Near, Within}
 use Rattle.rows.specs.Cursor.{cursorAt}
-use Rattle.rows.proofs.Numbers.{valid}
-use Rattle.selections.specs.declared.Selection.{Selection}
-use Rattle.selections.specs.Memos.{selectionOf, Picking, Remembers}
+use Rattle.selections.specs.Memos.{Picking, Remembers}
 use Rattle.operands.specs.declared.Kind.the-variants.{Select}
-use Rattle.operands.specs.Operations.{operationOf}
-use Rattle.operands.specs.Stands.{rowIn}
-use Rattle.filling.specs.declared.Filled.{Filled}
-use Rattle.filling.proofs.Cells.{lent-is}
 use Rattle.filling.proofs.Points.{is-near}
-use Rattle.filling.proofs.Turns.{Lent, Turn, Fills, lentAs, lentOf, rowOf, first-two, fills-two, turn-length, turn-index, turn-below, rows-kept, rows-stood, turn-more}
+use Rattle.filling.proofs.Turns.{Turn, rowOf, turn-length, turn-index, turn-below, rows-kept, rows-stood, turn-more}
 use Rattle.filling.proofs.Decided.{knows-same, knows-new, fresh}
 use Rattle.selections.specs.declared.Picked.{Picked}
 use Rattle.selections.specs.Deciding.{Decides}
 use Rattle.selecting.proofs.Chosen.{Judged, Chosen, flag-is, chosen-as, chosen-none, chosen-some}
+use Rattle.selecting.proofs.fill_select.Proof.Begun.{Inv-loop, μ-loop, Base, entry, by, old, A, B, a-row, b-row, a-valid, test-of}
 use Rattle.selecting.proofs.fill_select.Tie as tie
 
-abbrev pub Inv-loop : tie.InvT-loop
-Inv-loop by span at period pool₀ a-start a-end a-period a-distance b-start b-end b-period b-distance c₀ d₀ decided₀ of₀ holds₀ picked₀ labelled₀ t₀ pool c d decided of holds picked labelled t =
-    let a = lentAs a-start a-end a-period a-distance in
-    let b = lentAs b-start b-end b-period b-distance in
-    Turn (Select by) a b at period pool₀ pool labelled t
-    × (c ≡ cursorAt (rowOf a pool₀) (pos t))
-    × (d ≡ cursorAt (rowOf b pool₀) (pos t))
-    × (decided ≡ true → Judged by (rowOf a pool₀) (rowOf b pool₀) (pos t -ℤ pos 1) of holds)
-    × Remembers by (rowOf a pool₀) (rowOf b pool₀) picked
-
-abbrev pub μ-loop : tie.MeasureT-loop
-μ-loop by span at period pool₀ a-start a-end a-period a-distance b-start b-end b-period b-distance c₀ d₀ decided₀ of₀ holds₀ picked₀ labelled₀ t₀ pool c d decided of holds picked labelled t =
-    period - t
-
--- ---- the rows that are lent, as they stood before the loop
-
-abbrev Base : Type 0
-Base = tie.After-struct-told4 Inv-loop μ-loop
+-- ---- an instant
 
 abbrev At : Type 0
 At = tie.At-loop Inv-loop μ-loop
 
 abbrev In : Type 0
 In = tie.In-loop Inv-loop μ-loop
-
-abbrev entry : Base → tie.Start Inv-loop μ-loop
-entry k = k .before .before .before .before .before .before
-
-abbrev pub by : Base → Selection
-by k = entry k .args .by
-
-abbrev pub old : Base → List ℤ
-old k = entry k .args .pool .now
-
-abbrev A : Base → Lent
-A k = lentOf (entry k .args .a) (k .before .before .before .before .before .end-of .result)
-
-abbrev B : Base → Lent
-B k = lentOf (entry k .args .b) (k .before .before .end-of2 .result)
-
-abbrev pub a-row : Base → Row
-a-row k = rowOf (A k) (old k)
-
-abbrev pub b-row : Base → Row
-b-row k = rowOf (B k) (old k)
-
-a-is : (k : Base) → a-row k ≡ rowIn (old k) (entry k .args .a)
-a-is k =
-    let e = k .before .before .before .before .before in
-    lent-is (entry k .args .a) _ _ (e .end-of .ensures) (sfits-of (k .before .before .before .before .struct-told .given .1 .0 .1)) (sfits-of (k .before .before .before .struct-told2 .given .1 .1 .0 .1))
-
-b-is : (k : Base) → b-row k ≡ rowIn (old k) (entry k .args .b)
-b-is k = lent-is (entry k .args .b) _ _ (k .before .before .end-of2 .ensures) (sfits-of (k .before .struct-told3 .given .1 .0 .1)) (sfits-of (k .struct-told4 .given .1 .1 .0 .1))
-
--- what holds before the loop
-pub start : (k : Base) → let s = entry k in Turn (Select (by k)) (A k) (B k) (s .args .at) (s .args .period) (old k) (old k) false 0
-start k =
-    let s = entry k in
-    first-two _ _ refl (s .args .a) (s .args .b) _ _ _ _ _ (k .before .before .before .before .before .end-of .ensures) (a-is k) _ (k .before .before .end-of2 .ensures) (b-is k) (s .pre .0) (s .pre .1)
-
--- what the loop ensures, over the operands
-pub as-filled : (k : Base) (new : List ℤ) (r : Filled) → let s = entry k in Fills (operationOf (Select (by k)) (a-row k) (b-row k)) (s .args .at) (s .args .period) (old k) new r
-    → Fills (operationOf (Select (by k)) (rowIn (old k) (s .args .a)) (rowIn (old k) (s .args .b))) (s .args .at) (s .args .period) (old k) new r
-as-filled k new r h =
-    let s = entry k in
-    fills-two (Select (by k)) (Select (by k)) refl (s .args .a) (s .args .b) (s .args .span) (s .args .at) (s .args .period) _ _ (k .before .before .before .before .before .end-of .ensures) (a-is k) _ (k .before .before .end-of2 .ensures) (b-is k) new r h
-
-pub a-sound : (k : Base) → sound (a-row k) ≡ true
-a-sound k = start k .lends .is-given .sounds .0
-
-pub b-sound : (k : Base) → sound (b-row k) ≡ true
-b-sound k = start k .lends .is-given .sounds .1
-
-pub a-valid : (k : Base) → Valid (a-row k)
-a-valid k = valid (A k .period) (A k .distance) (a-row k .cells) (a-sound k)
-
--- what is decided of a's granules
-abbrev pub test-of : Base → ℤ → Bool
-test-of k = selects (selectionOf (by k)) (a-row k) (b-row k)
-
--- the parts that are lent lie in the pool
-pub a-part : (k : Base) (new : List ℤ) → length new ≡ length (old k) → (A k .start ≤ A k .end) × (A k .end ≤ length new) × (A k .end ≤ 1048576)
-a-part k new e = let l = start k .lends in (l .a-start, omega (arith, l .a-end, l .room), omega (arith, l .a-end, l .room, l .few))
-
-pub b-part : (k : Base) (new : List ℤ) → length new ≡ length (old k) → (B k .start ≤ B k .end) × (B k .end ≤ length new) × (B k .end ≤ 1048576)
-b-part k new e = let l = start k .lends in (l .b-start, omega (arith, l .b-end, l .room), omega (arith, l .b-end, l .room, l .few))
-
--- ---- an instant
 
 pub near-zero : Near (pos 0)
 near-zero = simp ints (omega arith)

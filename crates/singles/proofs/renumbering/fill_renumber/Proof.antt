@@ -1,126 +1,32 @@
 -- `singles::renumbering::fill_renumber` meets its contract: each turn of the loop writes the cell of one instant.
+--     Begun        before the loop: its invariant, and that it holds there
 -- Assumes nothing.
 use borrow.Author.Needs.{sfits-of}
 use borrow.Author.Tests.{not-true, not-false}
-use mathlib.Core.Path.{_≡_, refl, sym, _∙_, ap, subst₂}
+use mathlib.Core.Path.{_≡_, refl, sym, _∙_, ap}
 use mathlib.Core.Logic.{⊎-elim}
-use mathlib.Core.Option.{Option, none, some}
-use mathlib.Core.Bool.{true, false}
-use mathlib.Core.List.{List}
-use Prim.Native.Nat.{ℕ, _+_, _-_, _≤_, _<_}
+use mathlib.Core.Option.{some}
+use mathlib.Core.Bool.{true}
+use Prim.Native.Nat.{ℕ, _+_, _≤_, _<_}
 use native.Mathlib.Omega.{arith}
-use lib.IntN.{ℤ, pos, negsuc, _+ℤ_}
+use lib.IntN.{ℤ, pos, _+ℤ_}
 use lib.ListN.{length, getD, set}
 use mir.Facts.{toZ-ofZ, sfits-lit}
 use mir.Syntax.{w32, w64}
 use mir.Val.{SFits, toZ, ofZ}
-use Rattle.integers.proofs.Linear.{ints, _∴_}
 use Rattle.integers.proofs.Machine.{plain, test-eq, widened}
 use Rattle.calendar.specs.Meaning.{Row, meant, labelOf, empty}
 use Rattle.calendar.specs.Checks.{inRange}
 use Rattle.rows.proofs.Numbers.{read-as}
 use Rattle.rows.proofs.Cells.{label-empty, label-full}
-use Rattle.operands.specs.declared.Kind.the-variants.{Renumber}
-use Rattle.operands.specs.Operations.{operationOf}
-use Rattle.operands.specs.Stands.{rowIn}
-use Rattle.filling.specs.declared.Filled.{Filled}
-use Rattle.filling.proofs.Cells.{lent-is}
 use Rattle.filling.proofs.Working.{range-fits}
-use Rattle.filling.proofs.Turns.{Turn, Fills, lentAs, lentOf, rowOf, first-one, fills-one}
+use Rattle.filling.proofs.Turns.{lentOf, rowOf}
 use Rattle.singles.proofs.Counting.{Step, step-past, step-same, step-next}
 use Rattle.singles.proofs.Renumbers.{Renumbers, rules, renumbers-length, renumbers-index, label-is, renumbers-fit, renumbers-more, renumbers-out, renumbers-done}
+use Rattle.singles.proofs.renumbering.fill_renumber.Proof.Begun.{Inv-loop, μ-loop, Told, At-loop, entry, end-of-requires, as-filled, mul-last-before, sub-last-before, part-last-before-start, part-last-before-end, last-before-requires, mul-number-of, sub-number-of, part-number-of-start, part-number-of-end, number-of-requires, loop-holds}
 use Rattle.singles.proofs.renumbering.fill_renumber.Statement.{statement}
 use Rattle.singles.proofs.renumbering.fill_renumber.Tie as tie
-
-abbrev Inv-loop : tie.InvT-loop
-Inv-loop x span at period pool₀ start end a-period a-distance last₀ number₀ t₀ pool last number t =
-    Renumbers (toZ w64 x) (lentAs start end a-period a-distance) at period pool₀ pool (toZ w64 last) (toZ w64 number) t × (ofZ w64 (toZ w64 last) ≡ last)
-
-abbrev μ-loop : tie.MeasureT-loop
-μ-loop x span at period pool₀ start end a-period a-distance last₀ number₀ t₀ pool last number t = period - t
-
-abbrev Start : Type 0
-Start = tie.Start Inv-loop μ-loop
-
-abbrev Told : Type 0
-Told = tie.After-struct-told2 Inv-loop μ-loop
-
-abbrev At-loop : Type 0
-At-loop = tie.At-loop Inv-loop μ-loop
-
-abbrev entry : Told → Start
-entry c = c .before .before .before
-
-end-of-requires : tie.Need-end-of-requires Inv-loop μ-loop
-end-of-requires c κs = (c .pre .1 .a-period, c .pre .1 .a-end)
-
--- the row that is lent
-a-is : (c : Told) → let s = entry c in rowOf (lentOf (s .args .a) (c .before .before .end-of .result)) (s .args .pool .now) ≡ rowIn (s .args .pool .now) (s .args .a)
-a-is c = lent-is (entry c .args .a) _ _ (c .before .before .end-of .ensures) (sfits-of (c .before .struct-told .given .1 .0 .1)) (sfits-of (c .struct-told2 .given .1 .1 .0 .1))
-
-first : (c : Told) → let s = entry c in let a = lentOf (s .args .a) (c .before .before .end-of .result) in
-    Turn (Renumber (toZ w64 (ofZ w64 (s .args .x)))) a a (s .args .at) (s .args .period) (s .args .pool .now) (s .args .pool .now) false 0
-first c =
-    let s = entry c in
-    first-one _ _ (ap Renumber (toZ-ofZ (s .fits .x))) (s .args .a) (s .args .b) _ _ _ _ _ (c .before .before .end-of .ensures) (a-is c) refl (s .pre .0) (s .pre .1)
-
--- what the loop ensures, over the operand
-as-filled : (c : Told) (new : List ℤ) (r : Filled) → let s = entry c in
-    Fills (operationOf (Renumber (toZ w64 (ofZ w64 (s .args .x)))) (rowOf (lentOf (s .args .a) (c .before .before .end-of .result)) (s .args .pool .now)) (rowOf (lentOf (s .args .a) (c .before .before .end-of .result)) (s .args .pool .now))) (s .args .at) (s .args .period) (s .args .pool .now) new r
-    → Fills (operationOf (Renumber (s .args .x)) (rowIn (s .args .pool .now) (s .args .a)) (rowIn (s .args .pool .now) (s .args .b))) (s .args .at) (s .args .period) (s .args .pool .now) new r
-as-filled c new r h = let s = entry c in fills-one (Renumber (toZ w64 (ofZ w64 (s .args .x)))) (Renumber (s .args .x)) (ap Renumber (toZ-ofZ (s .fits .x))) (s .args .a) (s .args .b) (s .args .span) (s .args .at) (s .args .period) _ _ (c .before .before .end-of .ensures) (a-is c) refl new r h
-
--- ---- the last label before the instant 0, and its number
-
-lent-end : (c : Told) → let s = entry c in (c .before .before .end-of .result ≤ length (s .args .pool .now)) × (length (s .args .pool .now) ≤ 1048576)
-lent-end c = let l = first c .lends in (omega (arith, l .a-end, l .room), l .few)
-
-mul-last-before : tie.Need-mul-last-before Inv-loop μ-loop
-mul-last-before c = let h = lent-end c in omega (arith, first c .lends .a-start)
-
-sub-last-before : tie.Need-sub-last-before Inv-loop μ-loop
-sub-last-before c = first c .lends .a-start
-
-part-last-before-start : tie.Need-part-last-before-start Inv-loop μ-loop
-part-last-before-start c = first (c .before) .lends .a-start
-
-part-last-before-end : tie.Need-part-last-before-end Inv-loop μ-loop
-part-last-before-end c = lent-end (c .before) .0
-
-last-before-requires : tie.Need-last-before-requires Inv-loop μ-loop
-last-before-requires c κs = first (c .before .before) .lends .is-given .sounds .0
-
-mul-number-of : tie.Need-mul-number-of Inv-loop μ-loop
-mul-number-of c = mul-last-before (c .before .before .before)
-
-sub-number-of : tie.Need-sub-number-of Inv-loop μ-loop
-sub-number-of c = sub-last-before (c .before .before .before)
-
-part-number-of-start : tie.Need-part-number-of-start Inv-loop μ-loop
-part-number-of-start c = part-last-before-start (c .before .before .before)
-
-part-number-of-end : tie.Need-part-number-of-end Inv-loop μ-loop
-part-number-of-end c = part-last-before-end (c .before .before .before)
-
-number-of-requires : tie.Need-number-of-requires Inv-loop μ-loop
-number-of-requires c κs =
-    let b = c .before .before in
-    (first (b .before .before .before) .lends .is-given, toZ-ofZ {w = w64} {z = b .last-before .result} (sfits-of (b .last-before .ok)) ∙ b .last-before .ensures)
-
--- with these the loop begins
-last-read : (c : tie.After-last-before Inv-loop μ-loop) → toZ w64 (ofZ w64 (c .last-before .result)) ≡ c .last-before .result
-last-read c = toZ-ofZ (sfits-of (c .last-before .ok))
-
-loop-holds : tie.Need-loop-holds Inv-loop μ-loop
-loop-holds c =
-    let b = c .before .before .before in (
-      record {
-        labelled = false;
-        turn = first (b .before .before .before);
-        counts = record { is-last = last-read b ∙ b .last-before .ensures; numbered = toZ-ofZ {w = w64} {z = c .number-of .result} (sfits-of (c .number-of .ok)) ∙ c .number-of .ensures };
-      },
-      ap (ofZ w64) (last-read b),
-    )
+mod Begun
 
 -- ---- a turn
 
