@@ -1,9 +1,7 @@
 -- The laws that the loop of alter rests on.
 --     Repeated     n and D of document 01
---     Cursors      the cells of a row, read one behind the other
 --     Scans        a scan of the fine granules
 --     Loops        the turns of the loop
 pub mod Repeated
-pub mod Cursors
 pub mod Scans
 pub mod Loops

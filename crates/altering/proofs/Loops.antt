@@ -4,7 +4,7 @@ use mathlib.Core.Path.{_≡_, refl, sym, _∙_, ap}
 use mathlib.Core.Option.{some}
 use mathlib.Core.Bool.{Bool, true, false, cond}
 use mathlib.Core.List.{List}
-use Prim.Native.Nat.{ℕ, _+_, _-_, _≤_, _<_}
+use Prim.Native.Nat.{ℕ, _+_, _≤_, _<_}
 use native.Mathlib.Omega.{arith}
 use lib.IntN.{ℤ, pos}
 use lib.ListN.{length, set, getD, take, drop}
@@ -27,7 +27,7 @@ use Rattle.filling.specs.declared.Filled.{Filled}
 use Rattle.filling.specs.declared.Filled.the-variants.{Labelled, Unlabelled, OutOfRange}
 use Rattle.filling.specs.declared.Known.{Known}
 use Rattle.filling.proofs.Turns.{Lent, rowOf, Turn, Fills, turn-length, a-kept, turn-written, turn-more, turn-done, rows-stood}
-use Rattle.altering.proofs.Cursors.{Reads, cellsOf, cell-of, reads-label}
+use Rattle.filling.proofs.Cursors.{Cell, cellsOf, label-of-cell}
 use Rattle.altering.proofs.Scans.{Scan, Labels, label-of, scan-later}
 
 -- what holds before the instant t
@@ -35,7 +35,7 @@ pub record Altering (by : Alteration) (repeat : Repeat) (a b : Lent) (at period 
   pub labelled : Bool
   pub turn : Turn (Alter by) a b at period old new labelled t
   pub alterable : Alterable by repeat (rowOf a old) (rowOf b old)
-  pub reads : Reads a old i rise t
+  pub reads : Cell a old i rise (pos t)
   pub scan : Scan by repeat (rowOf a old) (rowOf b old) t walk behind known
 
 -- ---- the end: some instant has a label
@@ -85,10 +85,7 @@ module _ (by : Alteration) (repeat : Repeat) (a b : Lent) (at period : ℕ) (old
   pub cell-label : (d : ℤ) → meant (rowOf a old) (pos t) ≡ raise rise (labelOf (getD new i d))
   cell-label d =
       let k = a-kept (Alter by) a b at period old new (h .labelled) t (h .turn) in
-      let r = h .reads in
-      reads-label a old sound-old (h .turn .lends .a-start) end-old i rise t r
-      ∙ ap (λ (x : Row). raise rise (labelOf (getD (x .cells) (i - a .start) empty))) (sym k)
-      ∙ ap (λ (z : ℤ). raise rise (labelOf z)) (cell-of a new i d (r .low) (r .high) end-new)
+      label-of-cell a old sound-old end-old i rise (pos t) (h .reads) new end-new k d
 
   module _ (m : t < period) where
     -- the labels of the instants before
@@ -103,7 +100,7 @@ module _ (by : Alteration) (repeat : Repeat) (a b : Lent) (at period : ℕ) (old
 
     -- the label is written, and the cell of the next instant comes
     module _ (w : Walk) (p : Place) (k : Known) (cell : ℤ) (l : Labels by repeat (rowOf a old) (rowOf b old) t w p k cell) where
-      pub altering-more : (pool : List ℤ) (i′ : ℕ) (rise′ : ℤ) → pool ≡ set new (at + t) cell → Reads a old i′ rise′ (t + 1)
+      pub altering-more : (pool : List ℤ) (i′ : ℕ) (rise′ : ℤ) → pool ≡ set new (at + t) cell → Cell a old i′ rise′ (pos (t + 1))
           → Altering by repeat a b at period old pool w p k i′ rise′ (t + 1)
       altering-more pool i′ rise′ e r = record {
         labelled = _;

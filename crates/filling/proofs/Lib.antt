@@ -5,6 +5,7 @@
 --     Working      the working row as it is filled in
 --     Turns        the turns of a loop that fills it in
 --     Steps        the step of a loop over two operands
+--     Cursors      the cursor of an instant, as a loop over a pool holds it
 --     Lasts        the last label up to an instant
 --     Fresh        where a label's granule begins
 --     Decided      the granule that a loop decided last
@@ -15,6 +16,7 @@ pub mod Cells
 pub mod Working
 pub mod Turns
 pub mod Steps
+pub mod Cursors
 pub mod Lasts
 pub mod Fresh
 pub mod Decided

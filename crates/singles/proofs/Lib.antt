@@ -7,7 +7,7 @@
 --     Reckoned     the number of the last label before the instant 0
 --     Counting     a step of renumber
 --     Renumbers    the turns of the loop that renumbers labels
---     Cursors      the cursor of an instant, as a loop over a pool holds it
+--     Lent         an operand that is lent by its cells alone
 --     Ends         the working row has a label
 --     Groups       the labels of one group
 --     Turned       a turn of group
@@ -19,7 +19,7 @@ pub mod Passed
 pub mod Reckoned
 pub mod Counting
 pub mod Renumbers
-pub mod Cursors
+pub mod Lent
 pub mod Ends
 pub mod Groups
 pub mod Turned

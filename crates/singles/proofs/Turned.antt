@@ -31,8 +31,8 @@ use Rattle.filling.specs.declared.Filled.the-variants.{OutOfRange}
 use Rattle.filling.proofs.Points.{label-small}
 use Rattle.filling.proofs.Working.{filled-out, out-of-range}
 use Rattle.filling.proofs.Turns.{Lent, Turn, Fills, rowOf, turn-length, turn-more, a-kept, turn-ends}
+use Rattle.filling.proofs.Cursors.{Cell, cells-are, cell-on, label-of-cell}
 use Rattle.singles.specs.Grouped.{labelAt, groupAt, Small, grouped, Grouped}
-use Rattle.singles.proofs.Cursors.{Cell, cells-are, cell-on, label-of-cell}
 use Rattle.singles.proofs.Groups.{group-of}
 
 -- ---- the cells of a turn
@@ -112,7 +112,7 @@ module _ (x : ℤ) (a : Lent) (at period : ℕ) (old new : List ℤ) (labelled :
     label-is : meant row (pos (t + i)) ≡ labelAt z (a .start) new i
     label-is =
         let d : Cell a old (a .start + i) z (pos (t + i)) = cell-on a old s in-pool (a .start) z (pos t) c i (omega arith) in
-        label-of-cell a old s in-pool (a .start + i) z (pos (t + i)) d (omega arith) new (turn-ends _ _ _ _ _ _ _ _ _ h .0) (a-kept _ _ _ _ _ _ _ _ _ h) empty
+        label-of-cell a old s in-pool (a .start + i) z (pos (t + i)) d new (turn-ends _ _ _ _ _ _ _ _ _ h .0) (a-kept _ _ _ _ _ _ _ _ _ h) empty
 
     pub group-is : groupAt x z (a .start) new i ≡ result o (pos (t + i))
     group-is = sym (group-of (up x) row (pos (t + i)) _ label-is)

@@ -21,7 +21,7 @@ use Rattle.rows.proofs.Cells.{label-empty}
 use Rattle.alterations.specs.declared.ahead.Walk.{Walk}
 use Rattle.alterations.specs.declared.behind.Place.{Place}
 use Rattle.filling.specs.declared.Known.{Known}
-use Rattle.altering.proofs.Cursors.{Reads, reads-as, reads-turn, reads-next}
+use Rattle.filling.proofs.Cursors.{Cell, cell-as, cell-turn, cell-on}
 use Rattle.altering.proofs.Scans.{Labels, labels-as, labels-found, labels-none}
 use Rattle.altering.proofs.Loops.{cell-label, altering-more, altering-done}
 use Rattle.altering.proofs.fill_alter.Proof.Begun.{Inv-loop, μ-loop, entry, A, old, end-of-requires, end-of-requires-2, lends, a-fits, mul-repeat-of, sub-repeat-of, part-repeat-of-start, part-repeat-of-end, mul-repeat-of-2, sub-repeat-of-2, part-repeat-of-start-2, part-repeat-of-end-2, repeat-of-requires, mul-start, sub-start, part-start-start, part-start-end, mul-start-2, sub-start-2, part-start-start-2, part-start-end-2, start-requires, loop-holds}
@@ -99,15 +99,15 @@ labels c =
     (c .if1 .came)
 
 -- the cell of the next instant
-reads-on : (c : tie.Joined5 Inv-loop μ-loop) → let l = cell-at (c .before) in Reads (A (base l)) (old (base l)) (c .if5 .i) (toZ w64 (c .if5 .rise)) (l .loop .t + 1)
+reads-on : (c : tie.Joined5 Inv-loop μ-loop) → let l = cell-at (c .before) in Cell (A (base l)) (old (base l)) (c .if5 .i) (toZ w64 (c .if5 .rise)) (pos (l .loop .t + 1))
 reads-on c =
     let l = cell-at (c .before) in
     let k = base l in
     let g = lends k .is-given .sounds .0 in
-    let f = a-fits k in
+    let f = a-fits k .1 in
     ⊎-elim
-    (λ w. reads-as (w .1) (ap (toZ w64) (w .2) ∙ toZ-ofZ (distance-at (c .before))) (reads-turn (A k) (old k) g (f .0) (f .1) (l .loop .i) (toZ w64 (l .loop .rise)) (l .loop .t) (inv l .reads) (w .0 .taken)))
-    (λ w. reads-as (w .1) (ap (toZ w64) (w .2)) (reads-next (A k) (old k) g (f .0) (f .1) (l .loop .i) (toZ w64 (l .loop .rise)) (l .loop .t) (inv l .reads) (w .0 .left)))
+    (λ w. cell-as (w .1) (ap (toZ w64) (w .2) ∙ toZ-ofZ (distance-at (c .before))) (cell-turn (A k) (old k) g f (l .loop .i) (toZ w64 (l .loop .rise)) (pos (l .loop .t)) (inv l .reads) (w .0 .taken)))
+    (λ w. cell-as (w .1) (ap (toZ w64) (w .2)) (cell-on (A k) (old k) g f (l .loop .i) (toZ w64 (l .loop .rise)) (pos (l .loop .t)) (inv l .reads) 1 (omega (arith, inv l .reads .high, w .0 .left))))
     (c .if5 .came)
 
 loop-again : tie.Need-loop-again Inv-loop μ-loop

@@ -16,8 +16,8 @@ use Rattle.operands.specs.Stands.{rowIn}
 use Rattle.filling.specs.Given.{Given}
 use Rattle.filling.proofs.Cells.{lent-is, same-rows}
 use Rattle.filling.proofs.Turns.{Lent, lentAs, lentOf, rowOf, Lends, Turn, first-two}
+use Rattle.filling.proofs.Cursors.{first-cell}
 use Rattle.altering.proofs.Repeated.{Span}
-use Rattle.altering.proofs.Cursors.{reads-first}
 use Rattle.altering.proofs.Scans.{scan-first}
 use Rattle.altering.proofs.Loops.{Altering}
 use Rattle.altering.proofs.fill_alter.Tie as tie
@@ -146,6 +146,6 @@ loop-holds c =
       labelled = false;
       turn = first k;
       alterable = r .repeat-of .ensures;
-      reads = reads-first (A k) (old k) (lends k .is-given .sounds .0) (a-fits k .0) (a-fits k .1);
+      reads = first-cell (A k) (old k) (lends k .is-given .sounds .0) (a-fits k .1);
       scan = scan-first (s .args .by) (r .repeat-of .result) (rowOf (A k) (old k)) (rowOf (B k) (old k)) 0 (d .start .result) (d .start .ensures);
     }

@@ -24,7 +24,7 @@ use Rattle.alterations.specs.Follows.{Seeks}
 use Rattle.alterations.proofs.Followed.{seeks, place-behind}
 use Rattle.alterations.proofs.Reach.{Turns, turns-near}
 use Rattle.filling.proofs.Turns.{rows-kept, rows-stood}
-use Rattle.altering.proofs.Cursors.{cellsOf}
+use Rattle.filling.proofs.Cursors.{cellsOf}
 use Rattle.altering.proofs.fill_alter.Proof.Begun.{Inv-loop, μ-loop, entry, A, B, old, lends}
 use Rattle.altering.proofs.fill_alter.Proof.Read.{At, base, rep, by, a-row, b-row, inv, index, early, label, label-read, label-is, a-part}
 use Rattle.altering.proofs.fill_alter.Proof.ByWalk.{known-at, loop-at, j-of}

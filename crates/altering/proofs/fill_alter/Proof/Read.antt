@@ -19,7 +19,7 @@ use Rattle.rows.proofs.Cursors.{Bounds}
 use Rattle.alterations.specs.declared.Alteration.{Alteration}
 use Rattle.alterations.specs.declared.Repeat.{Repeat}
 use Rattle.filling.proofs.Turns.{rowOf, turn-length, turn-index}
-use Rattle.altering.proofs.Cursors.{reads-bounds}
+use Rattle.filling.proofs.Cursors.{cell-bounds}
 use Rattle.altering.proofs.Loops.{Altering, end-new, cell-label}
 use Rattle.altering.proofs.fill_alter.Proof.Begun.{Inv-loop, μ-loop, Told, entry, A, B, old, lends, a-fits, b-fits, told}
 use Rattle.altering.proofs.fill_alter.Tie as tie
@@ -85,7 +85,7 @@ pub rise-bounds : (c : In) → let l = c .before in let k = A (base l) in Bounds
 rise-bounds c =
     let l = c .before in
     let k = base l in
-    reads-bounds (A k) (old k) (lends k .is-given .sounds .0) (a-fits k .0) (a-fits k .1) (l .loop .i) (toZ w64 (l .loop .rise)) (l .loop .t) (inv l .reads) (early c)
+    cell-bounds (A k) (old k) (lends k .is-given .sounds .0) (a-fits k .1) (l .loop .i) (toZ w64 (l .loop .rise)) (pos (l .loop .t)) (inv l .reads) (simp ints (omega arith), early c ∴ simp ints (omega arith))
 
 pub label-fits : (c : tie.After-cell Inv-loop μ-loop) → SFits w64 (label (c .before .before))
 label-fits c = let b = rise-bounds (c .before) in cell-fits c ∴ b .rise-low ∴ b .rise-high ∴ simp ints (omega arith)

@@ -24,8 +24,9 @@ use Rattle.filling.specs.declared.Filled.{Filled}
 use Rattle.filling.proofs.Cells.{lent-is}
 use Rattle.filling.proofs.Points.{is-near}
 use Rattle.filling.proofs.Turns.{Lent, Turn, Fills, lentOf, rowOf, first-one, fills-one, turn-length, turn-below}
+use Rattle.filling.proofs.Cursors.{Cell, first-cell, cell-bounds, cell-next}
 use Rattle.singles.specs.Grouped.{Knows}
-use Rattle.singles.proofs.Cursors.{Cell, lentFrom, lent-from, first-cell, cell-high, more-fits, cell-next}
+use Rattle.singles.proofs.Lent.{lentFrom, lent-from}
 use Rattle.singles.proofs.Ends.{labelled-done}
 use Rattle.singles.proofs.Turned.{has-turn, turn-small, turn-outside, turned}
 use Rattle.singles.proofs.grouping.fill_group.Statement.{statement}
@@ -116,7 +117,7 @@ end-in l = let h = l .loop .inv .0 .1 in omega (arith, h .lends .a-end, h .lends
 
 -- a turn has a cell
 some-cell : (c : In-loop) → lent (c .before .before) .start < lent (c .before .before) .end
-some-cell c = let l = c .before in cell-high (lent (l .before)) _ (sound-of l) (end-in l) _ _ _ (l .loop .inv .1) (near c)
+some-cell c = c .before .loop .inv .1 .high
 
 add-fill-turn : tie.Need-add-fill-turn Inv-loop μ-loop
 add-fill-turn c = let h = index c in omega (arith, h .1, h .2)
@@ -153,7 +154,7 @@ returns c =
 -- ---- the next turn
 
 more-in : (c : In-loop) → SFits w64 (toZ w64 (c .before .loop .rise) +ℤ lent (c .before .before) .distance)
-more-in c = let l = c .before in more-fits (lent (l .before)) _ (sound-of l) (end-in l) _ _ _ (l .loop .inv .1) (near c)
+more-in c = let l = c .before in cell-bounds (lent (l .before)) _ (sound-of l) (end-in l) _ _ _ (l .loop .inv .1) (near c) .more-fits
 
 add-rise : tie.Need-add-rise Inv-loop μ-loop
 add-rise c = more-in (c .before .before .before .before .before .before)
@@ -171,7 +172,7 @@ loop-again c =
     let l = i .before in
     let g = f .fill-turn .ensures .1 .0 (sym (range-is (c .before)) ∙ not-false _ (c .if1 .left)) in (
       turned _ (lent (l .before)) _ _ _ _ _ _ _ (l .loop .inv .0 .1) (l .loop .inv .1) (room i) _ (g .1),
-      rw (toZ-ofZ (more-in i)) (cell-next (lent (l .before)) _ (sound-of l) (end-in l) _ _ _ (l .loop .inv .1) (some-cell i)),
+      rw (toZ-ofZ (more-in i)) (cell-next (lent (l .before)) _ (sound-of l) (end-in l) _ _ _ (l .loop .inv .1)),
       g .0,
     )
 
