@@ -2,7 +2,7 @@
 --     Pairs        what an alignment says of two instants: a labelled one between them, whole periods, and all instants
 --     Fitting      the test of an instant and the labelled one before it
 --     Choices      that test by the outcomes of its parts
---     Starts       a walk to an instant that has a label
+--     Starts       what is left of a pass
 --     Rising       whether labels rise alike
 --     Passes       a pass over two rows
 --     Looks        a pass that is about to look at an instant

@@ -11,6 +11,7 @@ ghost use Rattle.alignment.specs.Codes.{codeOf, codedLabel};
 ghost use Rattle.alignment.specs.Fits.{alignmentOf};
 ghost use Rattle.alignment.specs.Pass.{Spanned, RiseAlike, Starts, Limited};
 use rows::Found;
+use scans::scan;
 
 mod changing;
 mod comparing;
@@ -51,19 +52,7 @@ fn labelled_instant(cells: &[i32], period: i64, distance: i64) -> i64
     requires { ⌜ Sound period distance (now cells) ⌝ }
     ensures { λ r. ⌜ Starts (given period distance (now (cells .entry))) r ⌝ }
 {
-    let mut c = rows::cursor_at(cells, period, distance, 0);
-    let mut t = 0;
-    loop {
-        let label = rows::cursor_label(cells, period, distance, c);
-        match label {
-            Found::At(_) => {
-                return t;
-            }
-            Found::Nothing => {}
-        }
-        c = rows::cursor_next(cells, period, distance, c);
-        t += 1;
-    }
+    scan::leading(cells) as i64
 }
 
 // Whether a and b are aligned: each labelled instant of a span fits the one before, from a labelled one, which fits itself, up to the same

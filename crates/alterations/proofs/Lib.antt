@@ -6,7 +6,7 @@
 --     Tiled        the altered granules: how f rises, and the granule that has a fine one
 --     Reach        how large n and D are, and how far the walk over b goes
 --     Walking      the walk over b, one altered granule on
---     Sought       walks over the instants of a row
+--     Sought       a walk over the instants of a row
 --     Sized        how large the numbers are with which the walk starts
 --     Started      the walk with which a scan starts
 --     Followed     where a scan is, as it starts, at later instants and behind a step

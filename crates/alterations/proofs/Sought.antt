@@ -1,4 +1,4 @@
--- Walks over the instants of a row: to one whose label is not below j, and to the first that has a label.
+-- A walk over the instants of a row to one whose label is not below j.
 -- Assumes nothing.
 use mathlib.Core.Path.{_≡_, refl, sym, _∙_, ap}
 use mathlib.Core.Option.{Option, none, some}
@@ -13,15 +13,10 @@ use Rattle.integers.proofs.Order.Cases.{below, equal, above}
 use Rattle.calendar.specs.Meaning.{Row, meant}
 use Rattle.calendar.specs.Checks.{poolLimit}
 use Rattle.granules.specs.Valid.{Valid}
-use Rattle.granules.proofs.Tests.{none≢some, true≢false, leZ-iff}
-use Rattle.granules.proofs.Calendars.{labelled-near}
-use Rattle.granules.proofs.Rows.{meant-repeats}
-use Rattle.rows.specs.declared.Cursor.{Cursor}
+use Rattle.granules.proofs.Tests.{true≢false, leZ-iff}
 use Rattle.rows.specs.Cursor.{cursorAt}
 use Rattle.alterations.specs.declared.behind.Place.{Place}
-use Rattle.alterations.specs.Follows.{atLeast, Seeks, Opens}
-
--- ---- to a label that is not below j
+use Rattle.alterations.specs.Follows.{atLeast, Seeks}
 
 module _ (r : Row) (v : Valid r) (j : ℤ) (p : Place) (s : Seeks r p j) where
   -- where it is, the label is j: labels never fall, and j is ahead
@@ -55,32 +50,3 @@ module _ (r : Row) (v : Valid r) (j : ℤ) (p : Place) (s : Seeks r p j) where
 
   pub seek-left : atLeast j (meant r (pos (p .index))) ≡ false → p .index < poolLimit
   seek-left e = omega (arith, simp ints at (seek-ahead e), simp ints at (s .near))
-
--- ---- to the first label from 0 on
-
--- the walk is at t, and no instant before has a label
-pub record Looks (r : Row) (c : Cursor) (t : ℤ) : Type 0 where
-  pub cursor : c ≡ cursorAt r t
-  pub low : pos 0 ≤ℤ t
-  pub before : (u j : ℤ) → pos 0 ≤ℤ u → meant r u ≡ some j → t ≤ℤ u
-
-module _ (r : Row) (v : Valid r) where
-  pub looks-start : (c : Cursor) → c ≡ cursorAt r (pos 0) → Looks r c (pos 0)
-  looks-start c e = record { cursor = e; low = simp ints (omega arith); before = λ u j h _. h }
-
-  module _ (c : Cursor) (t : ℤ) (w : Looks r c t) where
-    pub looks-past : (d : Cursor) (u : ℤ) → u ≡ t +ℤ pos 1 → d ≡ cursorAt r u → meant r t ≡ none → Looks r d u
-    looks-past d u step e n = record { cursor = e; low = w .low ∴ step ∴ simp ints (omega arith); before = λ x j h l. go x j l (w .before x j h l) (cases x t) }
-      where
-        go : (x j : ℤ) → meant r x ≡ some j → t ≤ℤ x → Cases x t → u ≤ℤ x
-        go x j l h (below k) = absurd (h ∴ k ∴ simp ints (omega arith))
-        go x j l h (equal k) = absurd (none≢some (sym n ∙ ap (meant r) (sym k) ∙ l))
-        go x j l h (above k) = step ∴ k ∴ simp ints (omega arith)
-
-    pub looks-high : t <ℤ pos (r .period)
-    looks-high =
-        let n = labelled-near (meant r) (r .period) (r .distance) (meant-repeats r (v .positive .0)) (v .positive .0) (v .label) (v .labelled) (pos 0) in
-        w .before (n .0) (n .1) (n .2) (n .4) ∴ n .3 ∴ simp ints (omega arith)
-
-    pub looks-ends : (j : ℤ) → meant r t ≡ some j → Opens r (record { t = t; j = j })
-    looks-ends j h = record { low = w .low; high = looks-high; label = h; is-first = w .before }

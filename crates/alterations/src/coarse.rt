@@ -9,11 +9,8 @@ ghost use Rattle.calendar.specs.Meaning.{meant, Full};
 ghost use Rattle.calendar.specs.Algebra.{Partition};
 ghost use Rattle.calendar.specs.Questions.{given};
 ghost use Rattle.rows.specs.Found.{Sound, Within};
-ghost use Rattle.rows.specs.Cursor.{cursorAt};
-ghost use Rattle.walks.specs.Places.{Shown};
 ghost use Rattle.alterations.specs.Begins.{at, Begins};
 use rows::Cursor;
-use rows::Found;
 
 // Where b's granule i begins, with the label p of a there: the first granule of a in it.
 pub struct Begin {
@@ -21,19 +18,6 @@ pub struct Begin {
     pub p: i64,
     pub a: Cursor,
     pub b: Cursor,
-}
-
-// The label of the cursor's instant, which has one.
-fn label_of(cells: &[i32], period: i64, distance: i64, c: Cursor) -> i64
-    requires { ⌜ Sound period distance (now cells) ⌝ }
-    requires { ⌜ Shown (given period distance (now cells)) c ⌝ }
-    ensures { λ r. ⌜ ((u : ℤ) → c ≡ cursorAt (given period distance (now (cells .entry))) u → meant (given period distance (now (cells .entry))) u ≡ some r) ⌝ }
-{
-    let label = rows::cursor_label(cells, period, distance, c);
-    let Found::At(j) = label else {
-        return 0;
-    };
-    j
 }
 
 // Where b's granule of t begins.
@@ -59,8 +43,8 @@ pub fn begin_at(
     let v = granule_ends::first_instant(b_cells, b_period, b_distance, t);
     let a = rows::cursor_at(a_cells, a_period, a_distance, v);
     let b = rows::cursor_at(b_cells, b_period, b_distance, v);
-    let p = label_of(a_cells, a_period, a_distance, a);
-    let i = label_of(b_cells, b_period, b_distance, b);
+    let p = rows::label_of(a_cells, a_period, a_distance, a);
+    let i = rows::label_of(b_cells, b_period, b_distance, b);
     Begin { i, p, a, b }
 }
 
@@ -88,7 +72,7 @@ pub fn following(
     let change = runs::next_change(b_cells, b_period, b_distance, from);
     let a = runs::cursor_on(a_cells, a_period, a_distance, c.a, change.steps);
     let b = change.cursor;
-    let p = label_of(a_cells, a_period, a_distance, a);
-    let i = label_of(b_cells, b_period, b_distance, b);
+    let p = rows::label_of(a_cells, a_period, a_distance, a);
+    let i = rows::label_of(b_cells, b_period, b_distance, b);
     Begin { i, p, a, b }
 }

@@ -15,7 +15,7 @@ use super::Repeat;
 use super::ahead::Walk;
 use super::coarse;
 use super::coarse::Begin;
-use rows::Found;
+use scans::scan;
 
 // A labelled instant, with its label.
 pub struct Labelled {
@@ -28,18 +28,10 @@ fn first_labelled(cells: &[i32], period: i64, distance: i64) -> Labelled
     requires { ⌜ Sound period distance (now cells) ⌝ }
     ensures { λ r. ⌜ Opens (given period distance (now (cells .entry))) r ⌝ }
 {
-    let mut c = rows::cursor_at(cells, period, distance, 0);
-    let mut t = 0;
-    loop {
-        let label = rows::cursor_label(cells, period, distance, c);
-        match label {
-            Found::At(j) => {
-                return Labelled { t, j };
-            }
-            Found::Nothing => {}
-        }
-        c = rows::cursor_next(cells, period, distance, c);
-        t += 1;
+    let i = scan::leading(cells);
+    Labelled {
+        t: i as i64,
+        j: scan::wide(cells, i),
     }
 }
 

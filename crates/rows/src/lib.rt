@@ -1,13 +1,14 @@
 // A row in a slice with its period and distance: cursors, which step from instant to instant, and the labels of instants.
 
 ghost use mathlib.Core.Path.{_≡_};
+ghost use mathlib.Core.Option.{some};
 ghost use lib.IntN.{ℤ, pos, _+ℤ_, _-ℤ_};
 ghost use lib.ListN.{getD};
 ghost use Rattle.integers.specs.Parts.{up};
 ghost use Rattle.calendar.specs.Meaning.{meant, empty};
 ghost use Rattle.calendar.specs.Questions.{given};
 ghost use Rattle.rows.specs.Found.{found, Sound, Near};
-ghost use Rattle.rows.specs.Cursor.{Index, cursorAt, Standing};
+ghost use Rattle.rows.specs.Cursor.{Index, cursorAt, Standing, Shown};
 use calendar::Calendar;
 
 // A label or an instant, where there is one.
@@ -96,6 +97,19 @@ pub fn cursor_label(cells: &[i32], period: i64, distance: i64, c: Cursor) -> Fou
     } else {
         Found::At(cell as i64 + c.rise)
     }
+}
+
+// The label of the cursor's instant, which has one.
+pub fn label_of(cells: &[i32], period: i64, distance: i64, c: Cursor) -> i64
+    requires { ⌜ Sound period distance (now cells) ⌝ }
+    requires { ⌜ Shown (given period distance (now cells)) c ⌝ }
+    ensures { λ r. ⌜ ((u : ℤ) → c ≡ cursorAt (given period distance (now (cells .entry))) u → meant (given period distance (now (cells .entry))) u ≡ some r) ⌝ }
+{
+    let label = cursor_label(cells, period, distance, c);
+    let Found::At(j) = label else {
+        return 0;
+    };
+    j
 }
 
 // The label of the instant t.

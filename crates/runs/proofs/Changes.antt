@@ -25,12 +25,11 @@ use Rattle.rows.specs.Found.{Sound}
 use Rattle.rows.specs.Cursor.{cursorAt}
 use Rattle.rows.specs.Search.{run}
 use Rattle.rows.proofs.Numbers.{Numbers, numbers}
-use Rattle.rows.proofs.Search.{run-fails}
+use Rattle.rows.proofs.Search.{run-fails, run-length, run-passes, run-before}
 use Rattle.rows.proofs.Cells.{label-empty, label-full, empty-iff}
 use Rattle.rows.proofs.Cursors.{cursor-meant, cursor-moved}
 use Rattle.runs.specs.declared.Change.{Change}
 use Rattle.runs.specs.Changes.{passable, Changes}
-use Rattle.runs.proofs.Runs.{run-length, run-passes, run-before}
 
 -- a cell that passes has the label z or none, and one that fails another
 pub passes-same : (z y : ℤ) → passable z y ≡ true → (y ≡ empty → ⊥) → y ≡ z

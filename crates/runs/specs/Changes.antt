@@ -6,18 +6,12 @@ use lib.IntN.{ℤ, pos, _+ℤ_}
 use lib.Signed.{_≤ℤ_, _<ℤ_}
 use Rattle.calendar.specs.Meaning.{Row, meant, isEmpty}
 use Rattle.calendar.specs.Lists.{equal}
-use Rattle.rows.specs.declared.Cursor.{Cursor}
 use Rattle.rows.specs.Cursor.{cursorAt}
-use Rattle.rows.specs.Found.{Near}
 use Rattle.runs.specs.declared.Change.{Change}
 
 -- a cell has the label z or none
 abbrev pub passable : ℤ → ℤ → Bool
 passable z y = equal y z || isEmpty y
-
--- a cursor whose instant has a label
-abbrev pub Shows : Row → Cursor → Type 0
-Shows r c = (u : ℤ) × Near u × (c ≡ cursorAt r u) × ((j : ℤ) × (meant r u ≡ some j))
 
 -- behind the instant u the change is the first instant with another label
 pub record Changes (r : Row) (u : ℤ) (x : Change) : Type 0 where

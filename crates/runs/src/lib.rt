@@ -8,9 +8,9 @@ ghost use lib.Signed.{_≤ℤ_};
 ghost use lib.ListN.{length, drop};
 ghost use Rattle.calendar.specs.Questions.{given};
 ghost use Rattle.rows.specs.Found.{Sound};
-ghost use Rattle.rows.specs.Cursor.{cursorAt, Standing};
+ghost use Rattle.rows.specs.Cursor.{cursorAt, Standing, Shown};
 ghost use Rattle.rows.specs.Search.{run};
-ghost use Rattle.runs.specs.Changes.{passable, Shows, Changes};
+ghost use Rattle.runs.specs.Changes.{passable, Changes};
 use calendar::Calendar;
 use rows::Cursor;
 
@@ -42,7 +42,7 @@ fn other_from(cells: &[i32], start: usize, z: i32) -> usize
 // the distance higher.
 pub fn next_change(cells: &[i32], period: i64, distance: i64, c: Cursor) -> Change
     requires { ⌜ Sound period distance (now cells) ⌝ }
-    requires { ⌜ Shows (given period distance (now cells)) c ⌝ }
+    requires { ⌜ Shown (given period distance (now cells)) c ⌝ }
     ensures { λ r. ⌜ ((u : ℤ) → c ≡ cursorAt (given period distance (now (cells .entry))) u → Changes (given period distance (now (cells .entry))) u r) ⌝ }
 {
     let index = c.index as usize;

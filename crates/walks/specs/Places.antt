@@ -13,10 +13,6 @@ use Rattle.walks.specs.declared.Place.{Place}
 use Rattle.walks.specs.declared.Step.{Step}
 use Rattle.walks.specs.declared.Step.the-variants.{On, Done, Out}
 
--- a cursor of the row whose instant has a label
-abbrev pub Shown : Row → Cursor → Type 0
-Shown r c = (u : ℤ) × Near u × (c ≡ cursorAt r u) × ((j : ℤ) × (meant r u ≡ some j))
-
 -- the instant of a cursor: its turn, which the rise shows, and its cell
 unfoldable pub instant : Row → Cursor → ℤ
 unfolding floorDiv

@@ -10,7 +10,7 @@ ghost use Rattle.calendar.specs.Questions.{given, holder};
 ghost use Rattle.rows.specs.Found.{found, Sound, Labelled};
 ghost use Rattle.rows.specs.Cursor.{cursorAt, Standing};
 ghost use Rattle.walks.specs.Sides.{Stands, insideFrom, insideUpTo};
-ghost use Rattle.walks.specs.Places.{at, Shown, Beside, stepAt};
+ghost use Rattle.walks.specs.Places.{at, Beside, stepAt};
 use rows::Cursor;
 use rows::Found;
 
@@ -43,19 +43,6 @@ fn shows(cells: &[i32], period: i64, distance: i64, c: Cursor, j: i64) -> bool
         Found::At(i) => i == j,
         Found::Nothing => false,
     }
-}
-
-// The label of the cursor's instant, which has one.
-fn label_of(cells: &[i32], period: i64, distance: i64, c: Cursor) -> i64
-    requires { ⌜ Sound period distance (now cells) ⌝ }
-    requires { ⌜ Shown (given period distance (now cells)) c ⌝ }
-    ensures { λ r. ⌜ ((u : ℤ) → c ≡ cursorAt (given period distance (now (cells .entry))) u → meant (given period distance (now (cells .entry))) u ≡ some r) ⌝ }
-{
-    let label = rows::cursor_label(cells, period, distance, c);
-    let Found::At(j) = label else {
-        return 0;
-    };
-    j
 }
 
 // What the instant of the place says.
@@ -238,8 +225,8 @@ pub fn inside(
 {
     let b = rows::cursor_at(b_cells, b_period, b_distance, t);
     let a = rows::cursor_at(a_cells, a_period, a_distance, t);
-    let k = label_of(b_cells, b_period, b_distance, b);
-    let i = label_of(a_cells, a_period, a_distance, a);
+    let k = rows::label_of(b_cells, b_period, b_distance, b);
+    let i = rows::label_of(a_cells, a_period, a_distance, a);
     let from = Place { b, k, a, i };
     inside_at(
         b_cells,

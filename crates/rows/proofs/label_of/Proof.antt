@@ -1,4 +1,4 @@
--- `walks::label_of` meets its contract: there is a label, so the other branch is not taken.
+-- `rows::label_of` meets its contract: there is a label, so the other branch is not taken.
 -- Assumes nothing.
 use borrow.Author.Needs.{needs, sfits-of}
 use mathlib.Core.Path.{sym, _∙_, ap}
@@ -6,9 +6,9 @@ use mathlib.Core.Option.{some}
 use mir.Facts.{toZ-ofZ}
 use Rattle.integers.proofs.Machine.{plain}
 use Rattle.granules.proofs.Tests.{none≢some}
 use Rattle.rows.specs.Found.{found}
-use Rattle.walks.proofs.label_of.Statement.{statement}
-use Rattle.walks.proofs.label_of.Tie as tie
+use Rattle.rows.proofs.label_of.Statement.{statement}
+use Rattle.rows.proofs.label_of.Tie as tie
 
 cursor-label-requires : tie.Need-cursor-label-requires
 cursor-label-requires c κs = search needs
