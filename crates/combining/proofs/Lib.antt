@@ -1,3 +1,5 @@
--- The laws that the loop of combine rests on.
---     Lying        the labels of combine, and what its loop keeps
+-- The laws that the loop rests on.
+--     Lying        the label of combine at the instants of a granule
+--     Granules     what holds between two granules, and behind the next one
 pub mod Lying
+pub mod Granules

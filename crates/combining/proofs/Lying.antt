@@ -1,43 +1,19 @@
--- Whether b's granule lies in a's is the same at each of its instants; the label of combine there, and what its loop keeps.
+-- Whether b's granule lies in a's is the same at each of its instants, and so is the label of combine there.
 -- Assumes nothing.
 use mathlib.Core.Path.{_≡_, refl, sym, _∙_, ap, ap₂}
 use mathlib.Core.Option.{Option, none, some}
 use mathlib.Core.Bool.{Bool, true, false}
-use Prim.Native.Nat.{ℕ}
-use lib.IntN.{ℤ, pos, _-ℤ_}
+use lib.IntN.{ℤ}
 use Rattle.calendar.specs.Meaning.{Row, meant}
 use Rattle.calendar.specs.Operation.Binary.{combine}
 use Rattle.calendar.specs.Operation.Operation.{binary}
-use Rattle.calendar.specs.Lists.{onLabel, only, first}
-use Rattle.calendar.specs.Granules.{granule, inside}
+use Rattle.calendar.specs.Lists.{onLabel, only}
+use Rattle.calendar.specs.Granules.{inside}
 use Rattle.calendar.specs.Compute.{result}
 use Rattle.granules.specs.Valid.{Valid}
 use Rattle.granules.proofs.Tests.{true≢false, test-ext}
-use Rattle.granules.proofs.Lists.{first-least}
-use Rattle.granules.proofs.Granule.{granule-lists}
 use Rattle.granules.proofs.Inside.{inside-iff}
-use Rattle.filling.proofs.Decided.{Knows, knows-past, known}
 use Rattle.combining.specs.Lying.{liesIn, liesAt}
-
--- ---- the granule
-
--- at its first instant
-abbrev pub liesFirst : Row → Row → ℤ → Bool
-liesFirst a b k = liesAt a b k (first (granule b k))
-
-module _ (a b : Row) (v : Valid b) (k : ℤ) where
-  moves : (u : ℤ) → meant b u ≡ some k → (o : Option ℤ) → liesIn a b k o ≡ true → liesAt a b k u ≡ true
-  moves u f none e = absurd (true≢false e refl)
-  moves u f (some i) e = ap (liesIn a b k) (inside-iff b a v k i .0 e u f) ∙ e
-
-  pub lies-first : (t : ℤ) → meant b t ≡ some k → liesAt a b k t ≡ liesFirst a b k
-  lies-first t e =
-      let g = granule-lists b v k in
-      let u = first (granule b k) in
-      let f = g .member u .1 (first-least t (granule b k) (g .rising) (g .member t .0 e) .0) in
-      test-ext (moves u f (meant a t)) (moves t e (meant a u))
-
--- ---- the label
 
 pub combine-of : (a b : Row) (t : ℤ) (o p : Option ℤ) → meant b t ≡ o → meant a t ≡ p
     → result (binary combine a b) t ≡ onLabel o (λ k. onLabel p (λ i. only i (inside b k a i)))
@@ -53,37 +29,27 @@ dropped : (a b : Row) (k : ℤ) (o : Option ℤ) → liesIn a b k o ≡ false �
 dropped a b k none e = refl
 dropped a b k (some i) e = ap (only i) e
 
--- ---- what is kept
+-- at an instant of b's granule k
+module _ (a b : Row) (k t : ℤ) (e : meant b t ≡ some k) where
+  pub combined-in : liesAt a b k t ≡ true → meant a t ≡ result (binary combine a b) t
+  combined-in h = sym (combine-of a b t (some k) (meant a t) e refl ∙ kept a b k (meant a t) h)
 
--- what holds behind the instant t: the label that is written, and what is kept
-pub record Combined (a b : Row) (t : ℤ) (label : Option ℤ) (decided : Bool) (of : ℕ) (holds : Bool) : Type 0 where
-  pub is-label : label ≡ result (binary combine a b) t
-  pub knows : decided ≡ true → Knows b (liesFirst a b) t of holds
+  pub combined-out : liesAt a b k t ≡ false → none ≡ result (binary combine a b) t
+  combined-out h = sym (combine-of a b t (some k) (meant a t) e refl ∙ dropped a b k (meant a t) h)
 
-pub combined-as : {a b : Row} {t : ℤ} {o o' : Option ℤ} {d d' : Bool} {of of' : ℕ} {h h' : Bool} → o' ≡ o → d' ≡ d → of' ≡ of → h' ≡ h → Combined a b t o d of h → Combined a b t o' d' of' h'
-combined-as p q r e c = rw (p, q, r, e) c
+module _ (a b : Row) (v : Valid b) (k : ℤ) where
+  -- where the granule lies in a's, all its instants have that label in a
+  outer : (u : ℤ) → meant b u ≡ some k → (o : Option ℤ) → liesIn a b k o ≡ true → meant a u ≡ o
+  outer u f none e = absurd (true≢false e refl)
+  outer u f (some i) e = inside-iff b a v k i .0 e u f
 
-module _ (a b : Row) (v : Valid b) (t : ℤ) (of : ℕ) (holds : Bool) (decided : Bool) where
-  -- t has no label in b
-  pub combined-none : meant b t ≡ none → (decided ≡ true → Knows b (liesFirst a b) (t -ℤ pos 1) of holds) → Combined a b t none decided of holds
-  combined-none e k = record {
-    is-label = sym (combine-of a b t none (meant a t) e refl);
-    knows = λ d. knows-past b (liesFirst a b) v t of holds e (k d);
-  }
+  -- the label is the same at each of its instants
+  pub combined-same : (t u : ℤ) → meant b t ≡ some k → meant b u ≡ some k → result (binary combine a b) t ≡ result (binary combine a b) u
+  combined-same t u e f = by (liesAt a b k t) refl
+    where
+      same : liesAt a b k t ≡ liesAt a b k u
+      same = test-ext (λ h. ap (liesIn a b k) (outer u f (meant a t) h) ∙ h) (λ h. ap (liesIn a b k) (outer t e (meant a u) h) ∙ h)
 
-  -- t has the label k there
-  module _ (k : ℤ) (e : meant b t ≡ some k) (h : Knows b (liesFirst a b) t of holds) where
-    here : holds ≡ liesAt a b k t
-    here = known b (liesFirst a b) v t of holds k e h ∙ sym (lies-first a b v k t e)
-
-    pub combined-in : (o : Option ℤ) → o ≡ meant a t → holds ≡ true → Combined a b t o decided of holds
-    combined-in o p y = record {
-      is-label = p ∙ sym (combine-of a b t (some k) (meant a t) e refl ∙ kept a b k (meant a t) (sym here ∙ y));
-      knows = λ d. h;
-    }
-
-    pub combined-out : holds ≡ false → Combined a b t none decided of holds
-    combined-out y = record {
-      is-label = sym (combine-of a b t (some k) (meant a t) e refl ∙ dropped a b k (meant a t) (sym here ∙ y));
-      knows = λ d. h;
-    }
+      by : (h : Bool) → liesAt a b k t ≡ h → result (binary combine a b) t ≡ result (binary combine a b) u
+      by true h = sym (combined-in a b k t e h) ∙ sym (outer u f (meant a t) h) ∙ combined-in a b k u f (sym same ∙ h)
+      by false h = sym (combined-out a b k t e h) ∙ combined-out a b k u f (sym same ∙ h)

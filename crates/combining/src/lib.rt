@@ -8,11 +8,11 @@ ghost use Prim.Native.Nat.{_+_, _^_};
 ghost use lib.ListN.{length, take, drop};
 ghost use Rattle.calendar.specs.Meaning.{meant};
 ghost use Rattle.calendar.specs.Checks.{labelsInRange};
-ghost use Rattle.calendar.specs.Compute.{working};
+ghost use Rattle.calendar.specs.Compute.{result, working};
 ghost use Rattle.calendar.specs.Lists.{first};
 ghost use Rattle.calendar.specs.Granules.{granule};
 ghost use Rattle.calendar.specs.Questions.{given};
-ghost use Rattle.rows.specs.Found.{Sound, Within};
+ghost use Rattle.rows.specs.Found.{found, Sound, Within};
 ghost use Rattle.rows.specs.Cursor.{cursorAt};
 ghost use Rattle.operands.specs.declared.Kind.the-variants.{Combine};
 ghost use Rattle.operands.specs.Operations.{operationOf};
@@ -24,10 +24,13 @@ use filling::Filled;
 use filling::any;
 use filling::end_of;
 use filling::outcome;
-use filling::store;
 use operands::Operand;
 use rows::Cursor;
 use rows::Found;
+use stretches::cell_of;
+use stretches::fill_leading;
+use stretches::fill_stretch;
+use stretches::in_limits;
 use walks::Place;
 
 // Whether b's granule k lies in a's granule of t, which is one of its instants: its first one, where it is fresh.
@@ -81,7 +84,49 @@ fn lies(
     }
 }
 
-// Fills the working row of a combination. Each granule of b is decided where its first label shows.
+// The label of the combination at the instant t, which is in b's granule k: a's label, where the granule lies in a's.
+fn combined(
+    fresh: bool,
+    k: i64,
+    t: i64,
+    a: Cursor,
+    b: Cursor,
+    a_cells: &[i32],
+    a_period: i64,
+    a_distance: i64,
+    b_cells: &[i32],
+    b_period: i64,
+    b_distance: i64,
+) -> Found
+    requires { ⌜ Sound «a_period» «a_distance» (now «a_cells») ⌝ }
+    requires { ⌜ Sound «b_period» «b_distance» (now «b_cells») ⌝ }
+    requires { ⌜ Within (2 ^ 59) t ⌝ }
+    requires { ⌜ meant (given «b_period» «b_distance» (now «b_cells»)) t ≡ some k ⌝ }
+    requires { ⌜ a ≡ cursorAt (given «a_period» «a_distance» (now «a_cells»)) t ⌝ }
+    requires { ⌜ b ≡ cursorAt (given «b_period» «b_distance» (now «b_cells»)) t ⌝ }
+    requires { ⌜ (fresh ≡ true → t ≡ first (granule (given «b_period» «b_distance» (now «b_cells»)) k)) ⌝ }
+    ensures { λ r. ⌜ found r ≡ result (operationOf Combine (given «a_period» «a_distance» (now («a_cells» .entry))) (given «b_period» «b_distance» (now («b_cells» .entry)))) t ⌝ }
+{
+    if lies(
+        fresh,
+        k,
+        t,
+        a,
+        b,
+        a_cells,
+        a_period,
+        a_distance,
+        b_cells,
+        b_period,
+        b_distance,
+    ) {
+        rows::cursor_label(a_cells, a_period, a_distance, a)
+    } else {
+        Found::Nothing
+    }
+}
+
+// Fills the working row of a combination. Each granule of b is decided where its first label shows, and its instants are filled in one stretch.
 pub fn fill_combine(
     span: i64,
     at: usize,
@@ -104,48 +149,55 @@ pub fn fill_combine(
     let b_end = end_of(b, at);
     let b_period = b.period;
     let b_distance = b.distance;
-    let mut c = rows::cursor_at(&pool[a_start..a_end], a_period, a_distance, 0);
-    let mut d = rows::cursor_at(&pool[b_start..b_end], b_period, b_distance, 0);
-    let mut decided = false;
-    let mut of: i64 = 0;
-    let mut holds = false;
+    let mut reached = fill_leading(at, period, &mut *pool, b_start, b_end, b_period, b_distance);
+    let mut a_cursor = rows::cursor_at(
+        &pool[a_start..a_end],
+        a_period,
+        a_distance,
+        reached.t as i64,
+    );
+    let mut fresh = false;
     let mut labelled = false;
-    let mut t = 0;
-    while t < period {
-        let inner = rows::cursor_label(&pool[b_start..b_end], b_period, b_distance, d);
-        let mut kept = Found::Nothing;
-        match inner {
-            Found::At(k) => {
-                if !decided || of != k {
-                    holds = lies(
-                        decided,
-                        k,
-                        t as i64,
-                        c,
-                        d,
-                        &pool[a_start..a_end],
-                        a_period,
-                        a_distance,
-                        &pool[b_start..b_end],
-                        b_period,
-                        b_distance,
-                    );
-                    decided = true;
-                    of = k;
-                }
-                if holds {
-                    kept = rows::cursor_label(&pool[a_start..a_end], a_period, a_distance, c);
-                }
-            }
-            Found::Nothing => {}
-        }
-        if !store(kept, at + t, &mut *pool) {
+    while reached.t < period {
+        let k = rows::label_of(&pool[b_start..b_end], b_period, b_distance, reached.cursor);
+        let label = combined(
+            fresh,
+            k,
+            reached.t as i64,
+            a_cursor,
+            reached.cursor,
+            &pool[a_start..a_end],
+            a_period,
+            a_distance,
+            &pool[b_start..b_end],
+            b_period,
+            b_distance,
+        );
+        if !in_limits(label) {
             return Filled::OutOfRange;
         }
-        labelled = any(labelled, kept);
-        c = rows::cursor_next(&pool[a_start..a_end], a_period, a_distance, c);
-        d = rows::cursor_next(&pool[b_start..b_end], b_period, b_distance, d);
-        t += 1;
+        let next = fill_stretch(
+            cell_of(label),
+            k,
+            reached,
+            at,
+            period,
+            &mut *pool,
+            b_start,
+            b_end,
+            b_period,
+            b_distance,
+        );
+        a_cursor = runs::cursor_on(
+            &pool[a_start..a_end],
+            a_period,
+            a_distance,
+            a_cursor,
+            (next.t - reached.t) as i64,
+        );
+        labelled = any(labelled, label);
+        fresh = true;
+        reached = next;
     }
     outcome(labelled)
 }

@@ -9,7 +9,7 @@ use native.Mathlib.Omega.{arith}
 use lib.IntN.{ℤ}
 use lib.ListN.{length, getD, take, drop, replicate, length-append, length-replicate}
 use lib.Seq.{take-at, drop-at, drop-drop}
-use Rattle.calendar.specs.Meaning.{Row, empty}
+use Rattle.calendar.specs.Meaning.{Row}
 use Rattle.calendar.specs.Operation.{Operation}
 use Rattle.calendar.specs.Checks.{sound, poolLimit}
 use Rattle.calendar.specs.Reply.{Reply, andThen}
@@ -27,6 +27,7 @@ use Rattle.entering.specs.Stores.{Stores, Entered}
 use Rattle.entering.specs.Entering.{Added, Became}
 use Rattle.entering.proofs.Cells.{drop-alike}
 use Rattle.entering.proofs.AtRows.{getD-mem}
+use Rattle.conversion.proofs.Headings.{headings-length}
 
 -- ---- the row of an entry that is answered
 
@@ -49,10 +50,6 @@ joined-behind : (l : List Row) (r : Row) → joined (l ++ (r ∷ [])) ≡ joined
 joined-behind [] r = append-nil (r .cells)
 joined-behind (s ∷ l) r = ap (λ (c : List ℤ). s .cells ++ c) (joined-behind l r) ∙ sym (append-assoc (s .cells) (joined l) (r .cells))
 
-headings-length : (l : List Row) (s : ℕ) → length (headingsFrom s l) ≡ 3 * length l
-headings-length [] s = refl
-headings-length (r ∷ l) s = let ih = headings-length l (s + r .period) in omega arith
-
 -- three numbers and what is behind them
 abbrev headed : ℕ → Row → List ℕ → List ℕ
 headed s r n = s ∷ r .period ∷ r .distance ∷ n
@@ -69,7 +66,7 @@ headings-behind (c ∷ l) r s h =
 
 module _ (l : List Row) (k used e : ℕ) (numbers headings : List ℕ) (before pool : List ℤ) (r : Row) (many : length l ≡ k)
     (s : Stores l numbers before used) (a : Added k used numbers before r e headings pool) (heading : 3 * k + 3 ≤ length numbers)
-    (is-sound : sound r ≡ true) (fits : r .period ≤ length before - used) where
+    (is-sound : sound r ≡ true) (fits : r .period ≤ length before - used) (same : length pool ≡ length before) where
   whole : length (r .cells) ≡ r .period
   whole = sound-valid r is-sound .whole
 
@@ -84,7 +81,7 @@ module _ (l : List Row) (k used e : ℕ) (numbers headings : List ℕ) (before p
   left = length numbers - length old
 
   old-length : length old ≡ 3 * k
-  old-length = omega (arith, headings-length l 0)
+  old-length = omega (arith, headings-length 0 l)
 
   old-is : take (3 * k) numbers ≡ old
   old-is = ap (take (3 * k)) (s .numbers) ∙ take-at old (replicate left 0) (3 * k) old-length
@@ -113,30 +110,18 @@ module _ (l : List Row) (k used e : ℕ) (numbers headings : List ℕ) (before p
   abbrev cells : List ℤ
   cells = joined (l ++ (r ∷ []))
 
-  abbrev room : ℕ
-  room = length before - used - length (r .cells)
-
-  filled-in : pool ≡ joined l ++ (r .cells ++ replicate room empty)
-  filled-in =
-      a .cells ∙ ap (λ (c : List ℤ). c ++ (r .cells ++ replicate room empty)) (ap (take used) (s .cells) ∙ take-at (joined l) (replicate (length before - length (joined l)) empty) used (sym (s .ends)))
-
   cells-length : length cells ≡ used + r .period
   cells-length = ap length (joined-behind l r) ∙ length-append (joined l) (r .cells) ∙ omega (arith, whole, s .ends)
 
-  pool-length : length pool ≡ length before
-  pool-length = ap length filled-in ∙ simp (length-append, length-replicate) (omega (arith, whole, s .ends, s .fits))
-
-  cells-are : pool ≡ filled (length pool) empty cells
-  cells-are =
-      let n : room ≡ length pool - length cells = omega (arith, pool-length, cells-length, whole) in
-      filled-in ∙ sym (append-assoc (joined l) (r .cells) (replicate room empty)) ∙ ap₂ (λ (c : List ℤ) (n : ℕ). c ++ replicate n empty) (sym (joined-behind l r)) n
+  cells-are : take e pool ≡ cells
+  cells-are = ap (λ (n : ℕ). take n pool) (a .ends) ∙ a .cells ∙ ap (λ (c : List ℤ). c ++ r .cells) (s .cells) ∙ sym (joined-behind l r)
 
   stored : Stores (l ++ (r ∷ [])) headings pool e
   stored = record {
     numbers = numbers-are;
     cells = cells-are;
     ends = a .ends ∙ sym cells-length;
-    fits = omega (arith, a .ends, pool-length, s .fits);
+    fits = omega (arith, a .ends, s .fits);
     all-sound = λ c m. ⊎-elim (s .all-sound c) (λ i. subst (λ (c : Row). sound c ≡ true) (sym (List·Memᴰ·eq-of-singleton i)) is-sound) (List·Memᴰ·append-cases l m);
   }
 
@@ -153,7 +138,7 @@ entered t k used l numbers headings before pool x c many s heading limit is same
     by (Refused n) b = judged-same ∙ b
     by (Ends e) (r, b, a) =
         let h = entry-sound l (length before - used) x r (s .all-sound) (omega arith) b in
-        (r, judged-same ∙ b, stored l k used e numbers headings before pool r many s a heading (h .0) (h .1))
+        (r, judged-same ∙ b, stored l k used e numbers headings before pool r many s a heading (h .0) (h .1) same)
 
 -- an entry that does not pass checks 4, 5 and 6
 pub refused-named : (l : List Row) (k room n : ℕ) (x y : Entry) → length l ≡ k → y ≡ x → named k y ≡ refused n → judged l room x ≡ refused n

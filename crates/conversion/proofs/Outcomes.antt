@@ -1,6 +1,6 @@
 -- The outcome of a table, entry by entry, and what it leaves in both lists.
 -- Assumes nothing.
-use mathlib.Core.Path.{_≡_, refl, sym, _∙_, ap, subst}
+use mathlib.Core.Path.{_≡_, refl, sym, _∙_, ap, ap₂, subst}
 use mathlib.Core.Bool.{_&&_}
 use mathlib.Core.List.{List, [], _∷_, _++_, List·Memᴰ, List·Memᴰ·head, List·Memᴰ·tail, List·Memᴰ·not-nil}
 use Prim.Native.Nat.{ℕ, suc, _+_, _-_, _/_, _%_, _≤_, _<_}
@@ -9,14 +9,14 @@ use native.Mathlib.Numerals.{add-one}
 use native.Mathlib.Omega.{arith}
 use lib.Dec.{eqb, leb}
 use lib.IntN.{ℤ}
-use lib.ListN.{length, length-append}
+use lib.ListN.{length, take, replicate, length-append}
 use Rattle.calendar.specs.Meaning.{Row, empty}
 use Rattle.calendar.specs.Checks.{poolLimit}
 use Rattle.calendar.specs.Reply.{Reply}
 use Rattle.calendar.specs.Reply.Reply.{refused, answer}
 use Rattle.calendar.specs.Table.{Outcome, entryAt, judged, entries, entryLimit, admitted, outcome}
 use Rattle.calendar.specs.Table.Outcome.{refusedAt, rows}
-use Rattle.calendar.specs.Stored.{joined, poolAfter, headingsAfter}
+use Rattle.calendar.specs.Stored.{joined, filled, poolAfter, headingsAfter}
 use Rattle.granules.proofs.Tests.{and-iff, eqb-iff, leb-iff}
 use Rattle.granules.proofs.Sound.{sound-valid}
 use Rattle.algebra.proofs.Operations.{require-answer}
@@ -39,10 +39,15 @@ pub ended-refused : (h p m k : ℕ) (o : Outcome) (headings : List ℕ) (pool : 
 ended-refused h p m k o headings pool e c =
     subst (λ (o : Outcome). Ended h p o (Conversion.Refused m k) headings pool) (sym e) (refused-ends h p m k headings pool c)
 
-rows-end : (l : List Row) (headings : List ℕ) (pool : List ℤ) (used : ℕ) → Stores l headings pool used
-    → Ended (length headings) (length pool) (rows l) Conversion.Converted headings pool
+-- the cells behind the rows are made empty
+rows-end : (l : List Row) (headings : List ℕ) (pool after : List ℤ) (used : ℕ) → Stores l headings pool used
+    → after ≡ take used pool ++ replicate (length pool - used) empty → Ended (length headings) (length pool) (rows l) Conversion.Converted headings after
 unfolding headingsAfter poolAfter
-rows-end l headings pool used s = record { answer = refl; numbers = s .numbers; cells = s .cells }
+rows-end l headings pool after used s e = record {
+  answer = refl;
+  numbers = s .numbers;
+  cells = e ∙ ap₂ (λ (c : List ℤ) (n : ℕ). c ++ replicate (length pool - n) empty) (s .cells) (s .ends);
+}
 
 -- ---- rows between two entries
 
@@ -62,7 +67,7 @@ standing-none t n headings pool d = record {
   at-most = omega arith;
   before = [];
   count = refl;
-  stores = record { numbers = d .cleared .numbers; cells = d .cleared .cells; ends = refl; fits = omega arith; all-sound = λ r m. absurd (List·Memᴰ·not-nil m) };
+  stores = record { numbers = d .cleared; cells = refl; ends = refl; fits = omega arith; all-sound = λ r m. absurd (List·Memᴰ·not-nil m) };
   same = simp sub-zero;
   numbers = refl;
   cells = refl;
@@ -86,11 +91,12 @@ module _ (t : List ℤ) (n h p k : ℕ) (headings : List ℕ) (pool : List ℤ) 
     at-most = omega (arith, d .in-pool, s .cells);
   }
 
-  pub standing-ended : n ≤ k → Ended h p (entries t n 0 [] p) Conversion.Converted headings pool
-  standing-ended l =
+  pub standing-ended : n ≤ k → (after : List ℤ) → after ≡ take used pool ++ replicate (length pool - used) empty
+      → Ended h p (entries t n 0 [] p) Conversion.Converted headings after
+  standing-ended l after e =
       let z : n - k ≡ 0 = omega (arith, s .at-most) in
       let o = s .same ∙ ap (λ (m : ℕ). entries t m k (s .before) (p - length (joined (s .before)))) z ∙ entries-zero t k (s .before) _ in
-      rw (o, ← s .numbers, ← s .cells) (rows-end (s .before) headings pool used (s .stores))
+      rw (o, ← s .numbers, ← s .cells) (rows-end (s .before) headings pool after used (s .stores) e)
 
   -- the entry k is next
   module _ (l : k < n) (cells : List ℤ) (e : length cells ≡ length pool) where
@@ -139,22 +145,21 @@ pub outcome-entries : (t : List ℤ) (h p n : ℕ) (r : Conversion) (headings : 
 outcome-entries t h p n r headings pool e =
     subst (λ (o : Outcome). Ended h p o r headings pool) (sym (outcome-is t (h / 3) p ∙ ap (afterTable t p) e))
 
-pub admitted-due : (t : List ℤ) (h p n : ℕ) (headings : List ℕ) (pool : List ℤ) → Cleared h p headings pool → admitted t (h / 3) p ≡ answer n
+pub admitted-due : (t : List ℤ) (h n : ℕ) (headings : List ℕ) (pool : List ℤ) → headings ≡ filled h 0 [] → admitted t (h / 3) (length pool) ≡ answer n
     → TableDue t n headings pool
-admitted-due t h p n headings pool c e =
+admitted-due t h n headings pool c e =
     let r₁ = require-answer 1 (eqb (length t % 6) 0 && (leb 1 (length t / 6) && leb (length t / 6) entryLimit)) _ e in
     let r₂ = require-answer 2 (leb (length t / 6) (h / 3)) _ (r₁ .1) in
-    let r₃ = require-answer 3 (leb p poolLimit) _ (r₂ .1) in
+    let r₃ = require-answer 3 (leb (length pool) poolLimit) _ (r₂ .1) in
     let b = and-iff _ _ .0 (r₁ .0) in
     let multiple = eqb-iff (length t % 6) 0 .0 (b .0) in
     let few = leb-iff (length t / 6) entryLimit .0 (and-iff (leb 1 (length t / 6)) _ .0 (b .1) .1) in
     let headed = leb-iff (length t / 6) (h / 3) .0 (r₂ .0) in
-    let short = leb-iff p poolLimit .0 (r₃ .0) in
+    let short = leb-iff (length pool) poolLimit .0 (r₃ .0) in
     let n-is : length t / 6 ≡ n = cc (r₃ .1) in
-    let h-is = ap length (c .numbers) ∙ filled-length h 0 in
-    let p-is = ap length (c .cells) ∙ filled-length p empty in
+    let h-is = ap length c ∙ filled-length h 0 in
     record {
-      cleared = record { numbers = filled-self headings h 0 (c .numbers); cells = filled-self pool p empty (c .cells) };
+      cleared = filled-self headings h 0 c;
       in-table = omega arith;
       at-most = omega arith;
       has-headings = omega arith;

@@ -16,9 +16,9 @@ pub record Cleared (h p : ℕ) (headings : List ℕ) (pool : List ℤ) : Type 0 
   pub numbers : headings ≡ filled h 0 []
   pub cells : pool ≡ filled p empty []
 
--- the n entries of a table that passed checks 1, 2 and 3 are due
+-- the n entries of a table that passed checks 1, 2 and 3 are due, and the headings hold nothing
 pub record TableDue (t : List ℤ) (n : ℕ) (headings : List ℕ) (pool : List ℤ) : Type 0 where
-  pub cleared : Cleared (length headings) (length pool) headings pool
+  pub cleared : headings ≡ filled (length headings) 0 []
   pub in-table : 6 * n ≤ length t
   pub at-most : n ≤ entryLimit
   pub has-headings : 3 * n ≤ length headings

@@ -1,9 +1,9 @@
 // The conversion of a table: each entry's least row into the pool, one behind the other, with a heading of three numbers.
 
 ghost use mathlib.Core.Path.{_≡_};
-ghost use mathlib.Core.List.{List, []};
-ghost use Prim.Native.Nat.{_/_};
-ghost use lib.ListN.{length};
+ghost use mathlib.Core.List.{List, [], _++_};
+ghost use Prim.Native.Nat.{_-_, _/_, _≤_};
+ghost use lib.ListN.{length, take, replicate};
 ghost use Rattle.calendar.specs.Meaning.{Row, empty};
 ghost use Rattle.calendar.specs.Table.{entries, outcome};
 ghost use Rattle.calendar.specs.Stored.{filled, poolAfter, headingsAfter};
@@ -46,11 +46,12 @@ pub fn convert_entry(
     }
 }
 
-// Makes every cell empty.
-fn clear_cells(pool: &mut [i32])
-    ensures { λ r. ⌜ now (pool .exit) ≡ filled (length (now (pool .entry))) empty [] ⌝ }
+// Makes the cells from `start` on empty.
+fn clear_cells(pool: &mut [i32], start: usize)
+    requires { ⌜ start ≤ length (now pool) ⌝ }
+    ensures { λ r. ⌜ now (pool .exit) ≡ take start (now (pool .entry)) ++ replicate (length (now (pool .entry)) - start) empty ⌝ }
 {
-    let mut i = 0;
+    let mut i = start;
     while i < pool.len() {
         pool[i] = Calendar::EMPTY;
         i += 1;
@@ -73,10 +74,10 @@ fn clear(headings: &mut [u32], pool: &mut [i32])
     ensures { λ r. ⌜ Cleared (length (now (headings .entry))) (length (now (pool .entry))) (now (headings .exit)) (now (pool .exit)) ⌝ }
 {
     clear_headings(&mut *headings);
-    clear_cells(&mut *pool);
+    clear_cells(&mut *pool, 0);
 }
 
-// Converts the n entries of a table, whose lists hold nothing yet.
+// Converts the n entries of a table, whose headings hold nothing yet, and makes the cells behind the last row empty.
 fn convert_entries(table: &[i32], n: usize, headings: &mut [u32], pool: &mut [i32]) -> Conversion
     requires { ⌜ TableDue (now table) n (now headings) (now pool) ⌝ }
     ensures { λ r. ⌜ Ended (length (now (headings .entry))) (length (now (pool .entry))) (entries (now (table .entry)) n 0 [] (length (now (pool .entry)))) r (now (headings .exit)) (now (pool .exit)) ⌝ }
@@ -92,6 +93,7 @@ fn convert_entries(table: &[i32], n: usize, headings: &mut [u32], pool: &mut [i3
             Entry::Ends(end) => used = end,
         }
     }
+    clear_cells(&mut *pool, used);
     Conversion::Converted
 }
 
@@ -103,10 +105,13 @@ pub fn convert(table: &[i32], headings: &mut [u32], pool: &mut [i32]) -> Convers
     ensures headings { λ r. ⌜ now (headings .exit) ≡ headingsAfter (length (now (headings .entry))) (outcome (now (table .entry)) (length (now (headings .entry)) / 3) (length (now (pool .entry)))) ⌝ }
     ensures pool { λ r. ⌜ now (pool .exit) ≡ poolAfter (length (now (pool .entry))) (outcome (now (table .entry)) (length (now (headings .entry)) / 3) (length (now (pool .entry)))) ⌝ }
 {
-    clear(&mut *headings, &mut *pool);
+    clear_headings(&mut *headings);
     let begun = entries::begin(table, headings.len() / HEADING_LENGTH, pool.len());
     match begun {
-        Begun::Refused(number) => Conversion::Refused(number, 0),
+        Begun::Refused(number) => {
+            clear_cells(&mut *pool, 0);
+            Conversion::Refused(number, 0)
+        }
         Begun::Entries(n) => convert_entries(table, n, &mut *headings, &mut *pool),
     }
 }

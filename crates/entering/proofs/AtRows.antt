@@ -6,16 +6,14 @@ use mathlib.Core.List.{List, [], _∷_, List·Memᴰ, List·Memᴰ·head, List·
 use Prim.Native.Nat.{ℕ, zero, suc, _-_, _*_, _+_, _≤_, _<_}
 use native.Mathlib.Omega.{arith}
 use lib.IntN.{ℤ}
-use lib.ListN.{length, getD, drop, replicate}
-use lib.Seq.{drop-at}
+use lib.ListN.{length, getD}
 use Rattle.integers.proofs.Linear.{ints}
-use Rattle.calendar.specs.Meaning.{Row, empty}
+use Rattle.calendar.specs.Meaning.{Row}
 use Rattle.calendar.specs.Operation.{Operation, mapOperation}
 use Rattle.calendar.specs.Checks.{sound, poolLimit}
 use Rattle.calendar.specs.Reply.{Reply, andThen}
 use Rattle.calendar.specs.Reply.Reply.{answer}
 use Rattle.calendar.specs.Table.{Entry, named, converted, judged, atRows, bottomRow}
-use Rattle.calendar.specs.Stored.{joined}
 use Rattle.algebra.specs.Ready.{Operands}
 use Rattle.algebra.proofs.Operations.{operands-weaken}
 use Rattle.algebra.proofs.Named.{named-operation}
@@ -68,11 +66,6 @@ getD-mem [] d k h = absurd (omega arith)
 getD-mem (a ∷ l) d zero h = List·Memᴰ·head refl
 getD-mem (a ∷ l) d (suc k) h = List·Memᴰ·tail (getD-mem l d k (omega arith))
 
--- behind the rows all is empty
-pub behind-empty : {l : List Row} {headings : List ℕ} {pool : List ℤ} {used : ℕ} → Stores l headings pool used → drop used pool ≡ replicate (length pool - used) empty
-behind-empty {l} {headings} {pool} {used} s =
-    ap (drop used) (s .cells) ∙ drop-at (joined l) _ used (sym (s .ends)) ∙ ap (λ (n : ℕ). replicate (length pool - n) empty) (sym (s .ends))
-
 module _ (l : List Row) (k : ℕ) (headings : List ℕ) (pool : List ℤ) (used : ℕ) (many : length l ≡ k) (s : Stores l headings pool used)
     (e : Entry) (o : Operation ℕ) (h : named k e ≡ answer o) (n : Named) (names : Names k o n)
     (a b : Operand) (a-is : a ≡ operandOf headings (n .first)) (b-is : b ≡ operandOf headings (n .second)) where
@@ -109,7 +102,6 @@ module _ (l : List Row) (k : ℕ) (headings : List ℕ) (pool : List ℤ) (used 
         b-before = before (n .second);
         fits = s .fits;
         at-most = limit;
-        behind = behind-empty s;
         has-heading = heading;
       })
 

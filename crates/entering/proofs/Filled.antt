@@ -1,23 +1,22 @@
 -- The working row of an operation that has passed its checks, filled in behind the rows of a pool.
 -- Assumes nothing.
-use mathlib.Core.Path.{_≡_, sym, _∙_, ap, ap₂, subst}
+use mathlib.Core.Path.{_≡_, sym, _∙_, ap, subst}
 use mathlib.Core.Bool.{true, false}
 use mathlib.Core.List.{List, _++_}
-use Prim.Native.Nat.{ℕ, _+_, _-_, _≤_}
+use Prim.Native.Nat.{ℕ, _+_, _≤_}
 use native.Mathlib.Omega.{arith}
 use lib.IntN.{ℤ, pos}
-use lib.ListN.{length, take, drop, replicate, length-append, length-drop}
-use lib.Seq.{length-take-le, take-at, drop-at, drop-drop}
+use lib.ListN.{length, take, drop, length-append, length-drop}
+use lib.Seq.{length-take-le, take-at, drop-at}
 use Rattle.integers.specs.Parts.{up}
 use Rattle.integers.proofs.Linear.{ints}
-use Rattle.calendar.specs.Meaning.{Row, empty}
+use Rattle.calendar.specs.Meaning.{Row}
 use Rattle.calendar.specs.Operation.{Operation}
 use Rattle.calendar.specs.Size.{size}
 use Rattle.calendar.specs.Compute.{working}
 use Rattle.calendar.specs.Checks.{unlabelled, labelsInRange, inRange, labelsOf, cellsInRange, poolLimit, sound}
 use Rattle.calendar.specs.Least.{least}
 use Rattle.calendar.specs.Questions.{given}
-use Rattle.calendar.specs.Stored.{filled}
 use Rattle.granules.specs.Valid.{Valid}
 use Rattle.granules.proofs.Lists.{all-iff}
 use Rattle.granules.proofs.Rows.{labels-mem, label-index, cell-meant}
@@ -29,7 +28,6 @@ use Rattle.algebra.proofs.Working.{inRange-iff, labelled-some, labels-in-range,
 use Rattle.checks.specs.declared.Extent.{Extent}
 use Rattle.checks.specs.Admission.{extent}
 use Rattle.entering.specs.Entering.{Worked, Added}
-use Rattle.entering.proofs.Cells.{drop-alike}
 
 -- ---- the working row
 
@@ -68,9 +66,6 @@ module _ (o : Operation Row) (used : ℕ) (pool after : List ℤ) (fits : used +
   cells-are : take (size o .period) (drop used after) ≡ working o .cells
   cells-are = ap (take (size o .period)) from-is ∙ take-at (working o .cells) _ (size o .period) length-is
 
-  behind-is : drop (used + size o .period) after ≡ drop (used + size o .period) pool
-  behind-is = sym (drop-drop (size o .period) used after) ∙ ap (drop (size o .period)) from-is ∙ drop-at (working o .cells) _ (size o .period) length-is
-
   after-length : length after ≡ length pool
   after-length = ap length is ∙ simp (length-append, length-drop) (omega (arith, length-take-le used pool (omega arith)))
 
@@ -79,20 +74,14 @@ module _ (o : Operation Row) (used : ℕ) (pool after : List ℤ) (fits : used +
   unfolding working
   row-is = λ i. record { period = size o .period; distance = size o .distance; cells = cells-are i }
 
-  pub worked : (x : Extent) → extent o ≡ x → drop used pool ≡ replicate (length pool - used) empty → length pool ≤ poolLimit → sound (working o) ≡ true
+  pub worked : (x : Extent) → extent o ≡ x → length pool ≤ poolLimit → sound (working o) ≡ true
       → Worked (x .period) (x .distance) used after
-  worked x e behind limit s =
-      let room : length pool - used - size o .period ≡ length after - (used + size o .period) = omega (arith, after-length) in
+  worked x e limit s =
       subst (λ (x : Extent). Worked (x .period) (x .distance) used after) e (record {
         low = simp ints (omega arith);
         is-sound = ap sound row-is ∙ s;
         fits = omega (arith, after-length);
         at-most = omega (arith, after-length);
-        behind = behind-is
-            ∙ sym (drop-drop (size o .period) used pool)
-            ∙ ap (drop (size o .period)) behind
-            ∙ drop-alike empty (length pool - used) (size o .period)
-            ∙ ap (λ (n : ℕ). replicate n empty) room;
       })
 
   -- the least row is added to the pool as it was
@@ -104,6 +93,6 @@ module _ (o : Operation Row) (used : ℕ) (pool after : List ℤ) (fits : used +
       (subst (λ (x : Extent). Added k used numbers after (least (given (x .period) (x .distance) (take (up (x .period)) (drop used after)))) end headings last) (sym e) h) in
       record {
         heading = a .heading;
-        cells = a .cells ∙ ap₂ (λ (front : List ℤ) (n : ℕ). front ++ filled (n - used) empty (least (working o) .cells)) before-is after-length;
+        cells = a .cells ∙ ap (λ (front : List ℤ). front ++ least (working o) .cells) before-is;
         ends = a .ends;
       }

@@ -1,9 +1,9 @@
 -- The laws that entering the row of an entry rests on.
 --     Numbers      numbers as the machine casts them
---     Cells        cells that are made empty, and lists in parts
+--     Cells        lists in parts
 --     Standing     the operand of a heading is its row
 --     Parts        an operand, as the machine takes it apart
---     Shortening   a working row is cut to its least row
+--     Shortening   the least row of a working row
 --     Sounds       what holds of the operation of a kind over sound rows
 --     Admitted     an operation that has passed the checks before its working row is made
 --     Filled       its working row, filled in behind the rows of a pool

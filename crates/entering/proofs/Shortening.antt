@@ -1,23 +1,22 @@
--- A working row in the pool is cut to its least row.
+-- The least row of a working row in the pool.
 -- Assumes nothing.
 use mathlib.Core.Path.{_≡_, refl, sym, _∙_, ap, ap₂}
 use mathlib.Core.List.{List, _∷_, _++_}
-use Prim.Native.Nat.{ℕ, _+_, _-_, _*_, _≤_}
+use Prim.Native.Nat.{ℕ, _+_, _*_, _≤_}
 use native.Mathlib.Nat.{mul-le-mul-right, div-le-of-le-mul}
 use native.Mathlib.Omega.{arith}
 use lib.IntN.{ℤ, pos, natAbs}
 use lib.Signed.{_≤ℤ_}
-use lib.ListN.{length, take, drop, replicate}
+use lib.ListN.{take, drop}
 use mir.Syntax.{w64}
 use mir.Val.{SFits, ofZ, toZ}
 use mir.ValLaws.{toZ-ofZ}
 use Rattle.integers.specs.Parts.{up}
 use Rattle.integers.proofs.Linear.{ints}
-use Rattle.calendar.specs.Meaning.{Row, empty}
+use Rattle.calendar.specs.Meaning.{Row}
 use Rattle.calendar.specs.Checks.{poolLimit}
 use Rattle.calendar.specs.Least.{least}
 use Rattle.calendar.specs.Questions.{given}
-use Rattle.calendar.specs.Stored.{filled}
 use Rattle.granules.specs.Valid.{Valid}
 use Rattle.granules.proofs.Least.{least-shorter}
 use Rattle.granules.proofs.Sound.{sound-valid, sound-limits}
@@ -25,7 +24,7 @@ use Rattle.operands.specs.declared.Operand.{Operand}
 use Rattle.operands.specs.Stands.{rowIn}
 use Rattle.entering.specs.Entering.{Worked, Added}
 use Rattle.entries.proofs.Naturals.{natAbs-up}
-use Rattle.entering.proofs.Cells.{kept-cells}
+use Rattle.entering.proofs.Cells.{take-part}
 use Rattle.entering.proofs.Parts.{OperandFits, end-read, handed, handed-is}
 
 -- ---- the least row of a sound one
@@ -98,36 +97,22 @@ module _ (period distance : ℤ) (used : ℕ) (pool : List ℤ) (w : Worked peri
   pub found-handed : (z : ℤ) → z ≡ pos (least (handed pool stands ending) .period) → Found period distance used pool z
   found-handed z e = found z (e ∙ ap (λ (r : Row). pos (least r .period)) handed-row)
 
-  -- what is cleared behind it
-  pub cleared-behind : (z : ℤ) → Found period distance used pool z → (after : List ℤ) → let s = used + natAbs (toZ w64 (ofZ w64 z)) in
-      after ≡ take s pool ++ (replicate (ending - s) empty ++ drop ending pool)
-      → after ≡ take (used + up z) pool ++ (replicate (up period - up z) empty ++ drop (used + up period) pool)
-  cleared-behind z f after e =
-      let s : used + natAbs (toZ w64 (ofZ w64 z)) ≡ used + up z = ap (λ (n : ℕ). used + n) (f .read) in
-      let n : used + up period - (used + up z) ≡ up period - up z = omega arith in
-      e
-      ∙ ap₂ (λ (s e : ℕ). take s pool ++ (replicate (e - s) empty ++ drop e pool)) s ending-is
-      ∙ ap (λ (n : ℕ). take (used + up z) pool ++ (replicate n empty ++ drop (used + up period) pool)) n
-
   -- ---- the least row with its heading
 
   -- its least distance, as the machine holds it
   pub found-distance : (z : ℤ) → z ≡ pos (least row .distance) → SFits w64 z × (pos 0 ≤ℤ z) × (z ≤ℤ pos poolLimit)
   found-distance z is = rw is (simp ints (omega (arith, short, dense)), simp ints (omega arith), simp ints (omega (arith, short, dense)))
 
-  pub added : (k : ℕ) (numbers headings : List ℕ) (after : List ℤ) (z : ℤ) (e a b c : ℕ) → Found period distance used pool z
+  pub added : (k : ℕ) (numbers headings : List ℕ) (z : ℤ) (e a b c : ℕ) → Found period distance used pool z
       → a ≡ used → b ≡ up z → c ≡ least row .distance → e ≡ used + natAbs (toZ w64 (ofZ w64 z))
       → headings ≡ take (3 * k) numbers ++ (a ∷ b ∷ c ∷ drop (3 * k + 3) numbers)
-      → after ≡ take (used + up z) pool ++ (replicate (up period - up z) empty ++ drop (used + up period) pool)
-      → Added k used numbers pool (least row) e headings after
-  added k numbers headings after z e a b c f ae be ce ee he pe =
+      → Added k used numbers pool (least row) e headings pool
+  added k numbers headings z e a b c f ae be ce ee he =
       let q : up z ≡ least row .period = ap up (f .is) in
       record {
         heading = he
             ∙ ap₂ (λ (a b : ℕ). take (3 * k) numbers ++ (a ∷ b ∷ c ∷ drop (3 * k + 3) numbers)) ae (be ∙ q)
             ∙ ap (λ (c : ℕ). take (3 * k) numbers ++ (used ∷ least row .period ∷ c ∷ drop (3 * k + 3) numbers)) ce;
-        cells = pe
-            ∙ kept-cells pool used (up period) (up z) (f .short) (w .fits) (w .behind)
-            ∙ ap (λ (l : List ℤ). take used pool ++ filled (length pool - used) empty l) (ap (λ (n : ℕ). take n (take (up period) (drop used pool))) q ∙ sym (least-cells row));
+        cells = take-part pool used (up period) (least row .period) short ∙ ap (λ (l : List ℤ). take used pool ++ l) (sym (least-cells row));
         ends = ee ∙ ap (λ (n : ℕ). used + n) (f .read ∙ q);
       }

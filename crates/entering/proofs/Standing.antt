@@ -1,14 +1,14 @@
 -- Where rows stand one behind the other with their headings, the operand of a heading is its row.
 -- Assumes nothing.
-use mathlib.Core.Path.{_≡_, refl, _∙_, ap, ap₂}
+use mathlib.Core.Path.{_≡_, refl, sym, _∙_, ap, ap₂}
 use mathlib.Core.Bool.{true}
 use mathlib.Core.List.{List, [], _∷_, _++_, append-assoc, List·Memᴰ, List·Memᴰ·head, List·Memᴰ·tail}
 use Prim.Native.Nat.{ℕ, zero, suc, _+_, _-_, _*_, _≤_, _<_}
 use native.Mathlib.Omega.{arith}
 use lib.IntN.{ℤ, pos}
-use lib.ListN.{length, getD, take, drop, replicate, length-append}
+use lib.ListN.{length, getD, take, drop, replicate, length-append, take-append-drop}
 use lib.Seq.{take-at, drop-append-seam}
-use Rattle.calendar.specs.Meaning.{Row, empty}
+use Rattle.calendar.specs.Meaning.{Row}
 use Rattle.calendar.specs.Checks.{sound}
 use Rattle.calendar.specs.Table.{bottomRow}
 use Rattle.calendar.specs.Stored.{joined, headingsFrom}
@@ -92,5 +92,6 @@ module _ {l : List Row} {headings : List ℕ} {pool : List ℤ} {used : ℕ} (s 
 
   pub operand-row : (j : ℕ) → j < length l → rowIn pool (operandOf headings j) ≡ getD l j bottomRow
   operand-row j h =
-      ap₂ (λ (p : List ℤ) (n : List ℕ). rowIn p (operandOf n j)) (s .cells) (s .numbers)
-      ∙ row-from [] l (replicate (length pool - length (joined l)) empty) (length headings - length (headingsFrom 0 l)) j (s .all-sound) h
+      let pool-is : pool ≡ joined l ++ drop used pool = sym (take-append-drop used pool) ∙ ap (λ (c : List ℤ). c ++ drop used pool) (s .cells) in
+      ap₂ (λ (p : List ℤ) (n : List ℕ). rowIn p (operandOf n j)) pool-is (s .numbers)
+      ∙ row-from [] l (drop used pool) (length headings - length (headingsFrom 0 l)) j (s .all-sound) h

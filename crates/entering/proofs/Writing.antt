@@ -112,7 +112,7 @@ module _ (kind : Kind) (x : Extent) (a b : Operand) (k used : ℕ) (headings : L
 
     pub is-worked : Worked (x .period) (x .distance) used after
     is-worked =
-        worked o used pool after period-fits cells-length after-is x (passed .is) (e .behind) (e .at-most)
+        worked o used pool after period-fits cells-length after-is x (passed .is) (e .at-most)
         (working-sound o is-ready (all-in .0) (all-in .1) sounds (omega (arith, period-fits, e .at-most)))
 
     pub became : (last : List ℤ) (numbers : List ℕ) (n : ℕ)

@@ -2,19 +2,18 @@
 use mathlib.Core.Path.{_≡_}
 use mathlib.Core.Bool.{true}
 use mathlib.Core.List.{List, _∷_, _++_}
-use Prim.Native.Nat.{ℕ, _+_, _-_, _*_, _≤_, _<_}
+use Prim.Native.Nat.{ℕ, _+_, _*_, _≤_, _<_}
 use lib.IntN.{ℤ, pos}
 use lib.Signed.{_≤ℤ_}
-use lib.ListN.{length, getD, take, drop, replicate}
+use lib.ListN.{length, getD, take, drop}
 use Rattle.integers.specs.Parts.{up}
-use Rattle.calendar.specs.Meaning.{Row, empty}
+use Rattle.calendar.specs.Meaning.{Row}
 use Rattle.calendar.specs.Operation.{Operation}
 use Rattle.calendar.specs.Checks.{sound, poolLimit}
 use Rattle.calendar.specs.Questions.{given}
 use Rattle.calendar.specs.Reply.{Reply}
 use Rattle.calendar.specs.Reply.Reply.{refused, answer}
 use Rattle.calendar.specs.Table.{named}
-use Rattle.calendar.specs.Stored.{filled}
 use Rattle.entries.specs.declared.Entry as Entries
 use Rattle.entries.specs.Entries.{entryOf}
 use Rattle.operands.specs.declared.Kind.{Kind}
@@ -55,21 +54,19 @@ pub record Enterable (kind : Kind) (a b : Operand) (k used : ℕ) (headings : Li
   pub b-before : Before used b
   pub fits : used ≤ length pool
   pub at-most : length pool ≤ poolLimit
-  pub behind : drop used pool ≡ replicate (length pool - used) empty
   pub has-heading : 3 * k + 3 ≤ length headings
 
--- the working row stands in the pool from the cell `used` on; all behind it is empty
+-- the working row stands in the pool from the cell `used` on
 pub record Worked (period distance : ℤ) (used : ℕ) (pool : List ℤ) : Type 0 where
   pub low : pos 0 ≤ℤ period
   pub is-sound : sound (given period distance (take (up period) (drop used pool))) ≡ true
   pub fits : used + up period ≤ length pool
   pub at-most : length pool ≤ poolLimit
-  pub behind : drop (used + up period) pool ≡ replicate (length pool - (used + up period)) empty
 
--- the row r is added to the pool `before`, from the cell `used` on, with the k-th heading
+-- the row r is added to the first `used` cells of the pool `before`, with the k-th heading; what stands behind it is left open
 pub record Added (k used : ℕ) (numbers : List ℕ) (before : List ℤ) (r : Row) (e : ℕ) (headings : List ℕ) (pool : List ℤ) : Type 0 where
   pub heading : headings ≡ take (3 * k) numbers ++ (used ∷ r .period ∷ r .distance ∷ drop (3 * k + 3) numbers)
-  pub cells : pool ≡ take used before ++ filled (length before - used) empty (r .cells)
+  pub cells : take (used + r .period) pool ≡ take used before ++ r .cells
   pub ends : e ≡ used + r .period
 
 -- what became of an operation with the reply x

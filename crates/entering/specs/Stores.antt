@@ -4,8 +4,8 @@ use mathlib.Core.Bool.{true}
 use mathlib.Core.List.{List, [], _∷_, _++_, List·Memᴰ}
 use Prim.Native.Nat.{ℕ, _+_, _-_, _*_, _≤_, _<_}
 use lib.IntN.{ℤ}
-use lib.ListN.{length}
-use Rattle.calendar.specs.Meaning.{Row, empty}
+use lib.ListN.{length, take}
+use Rattle.calendar.specs.Meaning.{Row}
 use Rattle.calendar.specs.Checks.{sound, poolLimit}
 use Rattle.calendar.specs.Reply.Reply.{refused, answer}
 use Rattle.calendar.specs.Table.{entryAt, judged}
@@ -13,10 +13,10 @@ use Rattle.calendar.specs.Stored.{joined, headingsFrom, filled}
 use Rattle.entering.specs.declared.Entry.{Entry}
 use Rattle.entering.specs.declared.Entry.the-variants.{Refused, Ends}
 
--- the rows l stand in the pool from cell 0 on, up to the cell `used`, with their headings; all behind them is empty
+-- the rows l stand in the pool from cell 0 on, up to the cell `used`, with their headings; what stands behind them is left open
 pub record Stores (l : List Row) (headings : List ℕ) (pool : List ℤ) (used : ℕ) : Type 0 where
   pub numbers : headings ≡ filled (length headings) 0 (headingsFrom 0 l)
-  pub cells : pool ≡ filled (length pool) empty (joined l)
+  pub cells : take used pool ≡ joined l
   pub ends : used ≡ length (joined l)
   pub fits : used ≤ length pool
   pub all-sound : (r : Row) → List·Memᴰ r l → sound r ≡ true

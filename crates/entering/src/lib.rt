@@ -5,9 +5,9 @@ ghost use mathlib.Core.List.{List, _∷_, _++_};
 ghost use Prim.Native.Nat.{_+_, _-_, _*_, _≤_};
 ghost use lib.IntN.{pos};
 ghost use lib.Signed.{_≤ℤ_};
-ghost use lib.ListN.{length, take, drop, replicate};
+ghost use lib.ListN.{length, take, drop};
 ghost use Rattle.integers.specs.Parts.{up};
-ghost use Rattle.calendar.specs.Meaning.{Row, empty};
+ghost use Rattle.calendar.specs.Meaning.{Row};
 ghost use Rattle.calendar.specs.Checks.{poolLimit};
 ghost use Rattle.calendar.specs.Questions.{given};
 ghost use Rattle.calendar.specs.Least.{least};
@@ -19,7 +19,6 @@ ghost use Rattle.operands.specs.Stands.{end, rowIn};
 ghost use Rattle.checks.specs.Admission.{admission, checkedOf};
 ghost use Rattle.entering.specs.Stores.{Stores};
 ghost use Rattle.entering.specs.Entering.{operandOf, over, NamedDue, Before, Enterable, Worked, Added, Became};
-use calendar::Calendar;
 use calendar::Refusal;
 use checks::Checked;
 use checks::Extent;
@@ -76,18 +75,6 @@ fn write_heading(headings: &mut [u32], k: usize, start: u32, period: u32, distan
     headings[at + 2] = distance;
 }
 
-// Makes the cells from `start` up to `end` empty.
-fn clear(pool: &mut [i32], start: usize, end: usize)
-    requires { ⌜ (start ≤ end) × (end ≤ length (now pool)) ⌝ }
-    ensures { λ r. ⌜ now (pool .exit) ≡ take start (now (pool .entry)) ++ (replicate (end - start) empty ++ drop end (now (pool .entry))) ⌝ }
-{
-    let mut i = start;
-    while i < end {
-        pool[i] = Calendar::EMPTY;
-        i += 1;
-    }
-}
-
 // The checks of an operation over rows of the pool.
 fn check_in(kind: Kind, room: i64, pool: &[i32], a: Operand, b: Operand) -> Checked
     requires { ⌜ Numbers kind ⌝ }
@@ -114,32 +101,29 @@ fn check_in(kind: Kind, room: i64, pool: &[i32], a: Operand, b: Operand) -> Chec
     )
 }
 
-// Leaves of the working row from `used` on its least part, and says how long that is.
-fn shorten(period: i64, distance: i64, used: usize, pool: &mut [i32]) -> i64
+// The least period of the working row from `used` on.
+fn least_of(period: i64, distance: i64, used: usize, pool: &[i32]) -> i64
     requires { ⌜ Worked period distance used (now pool) ⌝ }
-    ensures least { λ r. ⌜ r ≡ pos (least (given period distance (take (up period) (drop used (now (pool .entry))))) .period) ⌝ }
-    ensures rest { λ r. ⌜ now (pool .exit) ≡ take (used + up r) (now (pool .entry)) ++ (replicate (up period - up r) empty ++ drop (used + up period) (now (pool .entry))) ⌝ }
+    ensures { λ r. ⌜ r ≡ pos (least (given period distance (take (up period) (drop used (now (pool .entry))))) .period) ⌝ }
 {
     let end = used + period as usize;
-    let least = least_form::least_period(&pool[used..end], period, distance);
-    clear(pool, used + least as usize, end);
-    least
+    least_form::least_period(&pool[used..end], period, distance)
 }
 
-// Turns the working row from `used` on into its least row, with a heading; the answer is the cell behind it.
+// Writes the heading of the least row of the working row from `used` on; the answer is the cell behind the least row.
 fn finish(
     period: i64,
     distance: i64,
     k: usize,
     used: usize,
     headings: &mut [u32],
-    pool: &mut [i32],
+    pool: &[i32],
 ) -> usize
     requires { ⌜ Worked period distance used (now pool) ⌝ }
     requires { ⌜ 3 * k + 3 ≤ length (now headings) ⌝ }
-    ensures { λ r. ⌜ Added k used (now (headings .entry)) (now (pool .entry)) (least (given period distance (take (up period) (drop used (now (pool .entry)))))) r (now (headings .exit)) (now (pool .exit)) ⌝ }
+    ensures { λ r. ⌜ Added k used (now (headings .entry)) (now (pool .entry)) (least (given period distance (take (up period) (drop used (now (pool .entry)))))) r (now (headings .exit)) (now (pool .entry)) ⌝ }
 {
-    let least = shorten(period, distance, used, pool);
+    let least = least_of(period, distance, used, pool);
     let rise = least_form::least_distance(period, distance, least);
     write_heading(
         headings,
@@ -151,7 +135,7 @@ fn finish(
     used + least as usize
 }
 
-// Fills in the working row of an operation that has passed its checks, and turns it into the least row.
+// Fills in the working row of an operation that has passed its checks, and enters its least row.
 fn write(
     kind: Kind,
     extent: Extent,

@@ -1,3 +1,3 @@
 -- The laws that the loop rests on.
---     Chosen       what the loop keeps, and the label that it gives
-pub mod Chosen
+--     Granules     what holds between two granules, and behind the next one
+pub mod Granules

@@ -4,9 +4,12 @@ ghost use mathlib.Core.Path.{_≡_};
 ghost use mathlib.Core.Bool.{true};
 ghost use mathlib.Core.List.{_++_};
 ghost use Prim.Native.Nat.{_+_};
+ghost use lib.IntN.{pos};
 ghost use lib.ListN.{length, take, drop};
+ghost use Rattle.calendar.specs.Lists.{only, equal};
 ghost use Rattle.calendar.specs.Compute.{working};
 ghost use Rattle.calendar.specs.Checks.{labelsInRange};
+ghost use Rattle.rows.specs.Found.{found};
 ghost use Rattle.operands.specs.declared.Kind.the-variants.{Select};
 ghost use Rattle.operands.specs.Operations.{operationOf};
 ghost use Rattle.operands.specs.Stands.{rowIn};
@@ -16,12 +19,26 @@ use filling::Filled;
 use filling::any;
 use filling::end_of;
 use filling::outcome;
-use filling::store;
 use operands::Operand;
 use rows::Found;
 use selections::Selection;
+use stretches::cell_of;
+use stretches::fill_leading;
+use stretches::fill_stretch;
+use stretches::in_limits;
 
-// Fills the working row of a selection. Each granule is decided where its first label shows.
+// The label of a granule that is kept (1 is yes), or none.
+fn kept(j: i64, holds: i64) -> Found
+    ensures { λ r. ⌜ found r ≡ only j (equal holds (pos 1)) ⌝ }
+{
+    if holds == 1 {
+        Found::At(j)
+    } else {
+        Found::Nothing
+    }
+}
+
+// Fills the working row of a selection. Each granule is decided where its first label shows, and its instants are filled in one stretch.
 pub fn fill_select(
     by: Selection,
     span: i64,
@@ -45,53 +62,60 @@ pub fn fill_select(
     let b_end = end_of(b, at);
     let b_period = b.period;
     let b_distance = b.distance;
-    let mut c = rows::cursor_at(&pool[a_start..a_end], a_period, a_distance, 0);
-    let mut d = rows::cursor_at(&pool[b_start..b_end], b_period, b_distance, 0);
-    let mut decided = false;
-    let mut of: i64 = 0;
-    let mut holds = false;
+    let mut reached = fill_leading(at, period, &mut *pool, a_start, a_end, a_period, a_distance);
+    let mut b_cursor = rows::cursor_at(
+        &pool[b_start..b_end],
+        b_period,
+        b_distance,
+        reached.t as i64,
+    );
+    let mut fresh = false;
     let mut picked = selections::unknown();
     let mut labelled = false;
-    let mut t = 0;
-    while t < period {
-        let label = rows::cursor_label(&pool[a_start..a_end], a_period, a_distance, c);
-        let mut kept = Found::Nothing;
-        match label {
-            Found::At(j) => {
-                if !decided || of != j {
-                    let decision = selections::decided(
-                        by,
-                        picked,
-                        decided,
-                        j,
-                        t as i64,
-                        c,
-                        d,
-                        &pool[a_start..a_end],
-                        a_period,
-                        a_distance,
-                        &pool[b_start..b_end],
-                        b_period,
-                        b_distance,
-                    );
-                    holds = decision.holds == 1;
-                    picked = decision.picked;
-                    decided = true;
-                    of = j;
-                }
-                if holds {
-                    kept = label;
-                }
-            }
-            Found::Nothing => {}
-        }
-        if !store(kept, at + t, &mut *pool) {
+    while reached.t < period {
+        let j = rows::label_of(&pool[a_start..a_end], a_period, a_distance, reached.cursor);
+        let decision = selections::decided(
+            by,
+            picked,
+            fresh,
+            j,
+            reached.t as i64,
+            reached.cursor,
+            b_cursor,
+            &pool[a_start..a_end],
+            a_period,
+            a_distance,
+            &pool[b_start..b_end],
+            b_period,
+            b_distance,
+        );
+        let label = kept(j, decision.holds);
+        if !in_limits(label) {
             return Filled::OutOfRange;
         }
-        labelled = any(labelled, kept);
-        c = rows::cursor_next(&pool[a_start..a_end], a_period, a_distance, c);
-        d = rows::cursor_next(&pool[b_start..b_end], b_period, b_distance, d);
-        t += 1;
+        let next = fill_stretch(
+            cell_of(label),
+            j,
+            reached,
+            at,
+            period,
+            &mut *pool,
+            a_start,
+            a_end,
+            a_period,
+            a_distance,
+        );
+        b_cursor = runs::cursor_on(
+            &pool[b_start..b_end],
+            b_period,
+            b_distance,
+            b_cursor,
+            (next.t - reached.t) as i64,
+        );
+        picked = decision.picked;
+        labelled = any(labelled, label);
+        fresh = true;
+        reached = next;
     }
     outcome(labelled)
 }

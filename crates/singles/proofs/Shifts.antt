@@ -1,14 +1,14 @@
--- The turns of the loop that shifts labels. It writes the cells of all instants, and keeps whether some label is outside the limits.
+-- The turns of the loop that shifts labels. It writes the cells of all instants, and counts the labels outside the limits.
 -- Assumes nothing.
-use mathlib.Core.Path.{_≡_, refl, sym, _∙_, ap, subst}
-use mathlib.Core.Logic.{_↔_, _⊎_, inl, inr, ⊎-elim, ⊎-map}
-use mathlib.Core.Option.{Option, none, some, Option·map}
-use mathlib.Core.Bool.{Bool, true, false, not, _||_}
+use mathlib.Core.Path.{_≡_, refl, sym, _∙_, ap}
+use mathlib.Core.Logic.{_↔_, _⊎_, inl, inr, ⊎-elim}
+use mathlib.Core.Option.{Option, none, some}
+use mathlib.Core.Bool.{Bool, true, false}
 use mathlib.Core.List.{List, _++_, append-assoc}
 use Prim.Native.Nat.{ℕ, _+_, _≤_, _<_}
 use native.Mathlib.Numerals.{add-one}
 use native.Mathlib.Omega.{arith}
-use lib.IntN.{ℤ, pos, negℤ}
+use lib.IntN.{ℤ, pos}
 use lib.ListN.{length, getD, set, take, drop}
 use lib.Seq.{paste, paste-zero, paste-suc, length-paste}
 use Rattle.integers.specs.Parts.{up}
@@ -20,8 +20,7 @@ use Rattle.calendar.specs.Lists.{isSome, ifLabel}
 use Rattle.calendar.specs.Size.{size}
 use Rattle.calendar.specs.Compute.{result, working, cellOf}
 use Rattle.calendar.specs.Checks.{sound, inRange, labelsInRange, poolLimit}
-use Rattle.granules.specs.Valid.{Valid}
-use Rattle.granules.proofs.Tests.{true-or-false, true≢false, or-iff, not-iff, false-iff, ltb-iff, decided}
+use Rattle.granules.proofs.Tests.{true-or-false, true≢false, ltb-iff, decided}
 use Rattle.granules.proofs.Rows.{meant-cell}
 use Rattle.granules.proofs.Sound.{sound-valid}
 use Rattle.granules.proofs.Equal.{cell-cases}
@@ -62,11 +61,16 @@ pub record Shifts (x : ℤ) (a : Operand) (at period : ℕ) (old : List ℤ) : T
   pub room : at + period ≤ length old
   pub few : length old ≤ poolLimit
 
--- the cells of the instants before t are written; `outside` says whether some of their labels are outside the limits
-pub record Shifted (o : Operation Row) (at : ℕ) (old new : List ℤ) (outside : Bool) (t : ℕ) : Type 0 where
+-- the cells of the instants before t are written; `outside` is above 0 exactly if some of their labels are outside the limits
+pub record Shifted (o : Operation Row) (at : ℕ) (old new : List ℤ) (outside : ℕ) (t : ℕ) : Type 0 where
   pub at-most : t ≤ size o .period
   pub is-new : new ≡ paste old at (working o .cells) t
-  pub is-outside : (outside ≡ true) ↔ ((u : ℕ) × (u < t) × (ifLabel (result o (pos u)) inRange ≡ false))
+  pub counted : outside ≤ t
+  pub is-outside : (0 < outside) ↔ ((u : ℕ) × (u < t) × (ifLabel (result o (pos u)) inRange ≡ false))
+
+-- one cell more is counted if its label is outside the limits
+abbrev pub Counts : ℤ → ℕ → ℕ → Type 0
+Counts z outside now = ((ifLabel (labelOf z) inRange ≡ false) × (now ≡ outside + 1)) ⊎ ((ifLabel (labelOf z) inRange ≡ true) × (now ≡ outside))
 
 module _ {x : ℤ} {a : Operand} {at period : ℕ} {old : List ℤ} (s : Shifts x a at period old) where
   abbrev r : Row
@@ -78,14 +82,15 @@ module _ {x : ℤ} {a : Operand} {at period : ℕ} {old : List ℤ} (s : Shifts 
   size-is : size o .period ≡ period
   size-is = shift-period x r ∙ sym (s .is-period)
 
-  pub shifted-none : Shifted o at old old false 0
+  pub shifted-none : Shifted o at old old 0 0
   shifted-none = record {
     at-most = omega arith;
     is-new = paste-zero old at (working o .cells);
-    is-outside = (λ e. absurd (true≢false e refl), λ h. absurd (omega (arith, h .1)));
+    counted = omega arith;
+    is-outside = (λ h. absurd (omega arith), λ h. absurd (omega (arith, h .1)));
   }
 
-  module _ {new : List ℤ} {outside : Bool} {t : ℕ} (w : Shifted o at old new outside t) where
+  module _ {new : List ℤ} {outside : ℕ} {t : ℕ} (w : Shifted o at old new outside t) where
     pub shifted-length : length new ≡ length old
     shifted-length =
         let l : at + t ≤ length old = omega (arith, w .at-most, size-is, s .room) in
@@ -116,7 +121,7 @@ module _ {x : ℤ} {a : Operand} {at period : ℕ} {old : List ℤ} (s : Shifts 
           cell-bound (a .period) (a .distance) (r .cells) (s .is-sound) t j (sym (meant-cell r t h) ∙ label-is ∙ e)
 
       -- one instant more, whose cell is z
-      pub shifted-more : (z : ℤ) (now : Bool) → labelOf z ≡ raise x (labelOf (getD new (a .start + t) (pos 0))) → now ≡ not (ifLabel (labelOf z) inRange) || outside
+      pub shifted-more : (z : ℤ) (now : ℕ) → labelOf z ≡ raise x (labelOf (getD new (a .start + t) (pos 0))) → Counts z outside now
           → Shifted o at old (set new (at + t) z) now (t + 1)
       shifted-more z now e i = record {
         at-most = omega (arith, size-is);
@@ -125,13 +130,14 @@ module _ {x : ℤ} {a : Operand} {at period : ℕ} {old : List ℤ} (s : Shifts 
             ∙ ap (set (paste old at cells t) (at + t)) (sym (label-cell z) ∙ ap cellOf (sym result-is) ∙ sym (working-at o t (omega (arith, size-is))))
             ∙ paste-suc old at cells t empty (omega (arith, s .room)) (omega (arith, working-length o, size-is))
             ∙ ap (paste old at cells) (sym (add-one t));
-        is-outside = (
-          λ q. ⊎-elim
-              (λ p. (t, omega arith, ap test result-is ∙ not-iff (ifLabel (labelOf z) inRange) .0 p))
-              (λ p. let y = w .is-outside .0 p in (y .0, omega (arith, y .1), y .2))
-              (or-iff (not (ifLabel (labelOf z) inRange)) outside .0 (sym i ∙ q)),
-          λ y. i ∙ or-iff (not (ifLabel (labelOf z) inRange)) outside .1 (by (y .0) (decided (ltb-iff (y .0) t)) (y .1) (y .2)),
-        );
+        counted = ⊎-elim (λ p. omega (arith, w .counted, p .1)) (λ p. omega (arith, w .counted, p .1)) i;
+        is-outside = ⊎-elim
+            (λ p. (λ q. (t, omega arith, ap test result-is ∙ p .0), λ y. omega (arith, p .1)))
+            (λ p. (
+              λ q. let y = w .is-outside .0 (omega (arith, p .1)) in (y .0, omega (arith, y .1), y .2),
+              λ y. let h = w .is-outside .1 (y .0, earlier (p .0) (y .0) (decided (ltb-iff (y .0) t)) (y .1) (y .2), y .2) in omega (arith, p .1),
+            ))
+            i;
       }
         where
           cells : List ℤ
@@ -143,11 +149,12 @@ module _ {x : ℤ} {a : Operand} {at period : ℕ} {old : List ℤ} (s : Shifts 
           result-is : result o (pos t) ≡ labelOf z
           result-is = shift-of x r (pos t) (labelOf (getD new (a .start + t) (pos 0))) label-is ∙ sym e
 
-          by : (u : ℕ) → (u < t) ⊎ (u < t → ⊥) → u < t + 1 → ifLabel (result o (pos u)) inRange ≡ false → (not (ifLabel (labelOf z) inRange) ≡ true) ⊎ (outside ≡ true)
-          by u (inl h) l f = inr (w .is-outside .1 (u, h, f))
-          by u (inr h) l f =
+          -- a label outside the limits is an earlier one
+          earlier : test (labelOf z) ≡ true → (u : ℕ) → (u < t) ⊎ (u < t → ⊥) → u < t + 1 → test (result o (pos u)) ≡ false → u < t
+          earlier f u (inl h) l g = h
+          earlier f u (inr h) l g =
               let q : u ≡ t = omega arith in
-              inl (not-iff (ifLabel (labelOf z) inRange) .1 (ap test (sym result-is) ∙ ap (λ (v : ℕ). test (result o (pos v))) (sym q) ∙ f))
+              absurd (true≢false f (ap test (sym result-is) ∙ ap (λ (v : ℕ). test (result o (pos v))) (sym q) ∙ g))
 
     module _ (m : period ≤ t) where
       done : size o .period ≤ t
@@ -157,7 +164,7 @@ module _ {x : ℤ} {a : Operand} {at period : ℕ} {old : List ℤ} (s : Shifts 
       out-at u h none e f = absurd (true≢false refl f)
       out-at u h (some j) e f = let b : u < size o .period = omega (arith, w .at-most) in (filled-out o u b j e f, out-of-range o u b j e f)
 
-      pub shifted-out : outside ≡ true → Fills o at period old new OutOfRange
+      pub shifted-out : 0 < outside → Fills o at period old new OutOfRange
       shifted-out e =
           let y = w .is-outside .0 e in
           let q = out-at (y .0) (y .1) (result o (pos (y .0))) refl (y .2) in
@@ -169,15 +176,15 @@ module _ {x : ℤ} {a : Operand} {at period : ℕ} {old : List ℤ} (s : Shifts 
           let l = labelled-first r (sound-valid r (s .is-sound)) in
           (l .0, omega (arith, l .2, s .is-period), ap isSome (shift-of x r (pos (l .0)) (some (l .1)) (l .3)))
 
-      all-written : outside ≡ false → Writes o at old new true t
+      all-written : outside ≤ 0 → Writes o at old new true t
       all-written e = record {
         at-most = w .at-most;
         is-new = w .is-new;
-        within = λ u h. ⊎-elim (λ y. y) (λ y. absurd (true≢false (w .is-outside .1 (u, h, y)) e)) (true-or-false (ifLabel (result o (pos u)) inRange));
+        within = λ u h. ⊎-elim (λ y. y) (λ y. let n = w .is-outside .1 (u, h, y) in absurd (omega arith)) (true-or-false (ifLabel (result o (pos u)) inRange));
         is-labelled = (λ q. labelled, λ y. refl);
       }
 
-      pub shifted-done : outside ≡ false → Fills o at period old new Labelled
+      pub shifted-done : outside ≤ 0 → Fills o at period old new Labelled
       shifted-done e =
           let room : at + size o .period ≤ length old = omega (arith, size-is, s .room) in
           let h = all-written e in (

@@ -39,12 +39,13 @@ fn is_outside(cell: i32) -> bool
     ensures { λ r. ⌜ r ≡ not (ifLabel (labelOf cell) inRange) ⌝ }
 {
     if cell == Calendar::EMPTY {
-        return false;
+        false
+    } else {
+        cell > Calendar::GREATEST_LABEL as i32 || cell < Calendar::LEAST_LABEL as i32
     }
-    !Calendar::in_range(cell as i64)
 }
 
-// Fills the working row of a shift.
+// Fills the working row of a shift. The cells outside the limits are counted: a count is kept several cells at a time.
 pub fn fill_shift(
     x: i64,
     span: i64,
@@ -62,17 +63,17 @@ pub fn fill_shift(
 {
     let start = a.start;
     let by = x as i32;
-    let mut outside = false;
+    let mut outside: usize = 0;
     let mut t = 0;
     while t < period {
         let cell = shifted(pool[start + t], by);
         pool[at + t] = cell;
         if is_outside(cell) {
-            outside = true;
+            outside += 1;
         }
         t += 1;
     }
-    if outside {
+    if outside > 0 {
         Filled::OutOfRange
     } else {
         Filled::Labelled

@@ -1,25 +1,23 @@
--- `conversion::convert` meets its contract: both lists are cleared, checks 1, 2 and 3 pass, and then it is what its entries come to.
+-- `conversion::convert` meets its contract: the headings are cleared, checks 1, 2 and 3 pass, and then it is what its entries come to.
 -- Assumes nothing.
 use borrow.Author.Needs.{needs}
 use mathlib.Core.Path.{_≡_, sym, _∙_, ap}
 use mathlib.Core.List.{List}
 use Prim.Native.Nat.{ℕ, _/_}
-use lib.IntN.{ℤ}
 use lib.ListN.{length}
 use Rattle.calendar.specs.Reply.Reply.{answer}
 use Rattle.calendar.specs.Table.{admitted}
 use Rattle.entries.specs.Entries.{begun}
 use Rattle.entries.proofs.Answers.{begun-refused, begun-entries}
-use Rattle.conversion.specs.Tables.{Cleared}
 use Rattle.conversion.proofs.Outcomes.{outcome-refused, outcome-entries, admitted-due}
 use Rattle.conversion.proofs.convert.Statement.{statement}
 use Rattle.conversion.proofs.convert.Tie as tie
 
-abbrev clearing : tie.After-begin → tie.After-clear
-clearing c = c .before .before .before .before
+abbrev clearing : tie.After-begin → tie.After-clear-headings
+clearing c = c .before .before .before
 
 abbrev start : tie.After-begin → tie.Start
-start c = clearing c .before .before .before .before
+start c = clearing c .before .before .before
 
 abbrev width : tie.After-begin → ℕ
 width c = length (start c .args .headings .now)
@@ -28,16 +26,10 @@ abbrev room : tie.After-begin → ℕ
 room c = length (start c .args .pool .now)
 
 abbrev numbers : tie.After-begin → List ℕ
-numbers c = clearing c .clear .last .0
+numbers c = clearing c .clear-headings .last .0
 
-abbrev cells : tie.After-begin → List ℤ
-cells c = clearing c .clear .last .1 .0
-
-cleared : (c : tie.After-begin) → Cleared (width c) (room c) (numbers c) (cells c)
-cleared c = clearing c .clear .ensures
-
-clear-requires : tie.Need-clear-requires
-clear-requires c κs = search needs
+clear-headings-requires : tie.Need-clear-headings-requires
+clear-headings-requires c κs = search needs
 
 -- ---- checks 1, 2 and 3
 
@@ -45,16 +37,16 @@ begin-requires : tie.Need-begin-requires
 begin-requires c κs = search needs
 
 begins : (c : tie.After-begin) → c .begin .result ≡ begun (admitted (start c .args .table .now) (width c / 3) (room c))
-begins c =
-    c .begin .ensures
-    ∙ ap (λ (h : ℕ). begun (admitted (start c .args .table .now) (h / 3) (length (cells c)))) (clearing c .clear .kept .0)
-    ∙ ap (λ (p : ℕ). begun (admitted (start c .args .table .now) (width c / 3) p)) (clearing c .clear .kept .1 .0)
+begins c = c .begin .ensures ∙ ap (λ (h : ℕ). begun (admitted (start c .args .table .now) (h / 3) (room c))) (clearing c .clear-headings .kept .0)
 
 enum-known-begun : tie.Need-enum-known-begun
 enum-known-begun c = search needs
 
 enum-known-begun-2 : tie.Need-enum-known-begun-2
 enum-known-begun-2 c = search needs
+
+clear-cells-requires : tie.Need-clear-cells-requires
+clear-cells-requires c κs = search needs
 
 same-length : tie.Need-same-length
 same-length c = search needs
@@ -64,8 +56,10 @@ same-length-2 c = search needs
 
 returns : tie.Need-returns
 returns c =
-    let b = c .before .before .before in
-    let x = outcome-refused (start b .args .table .now) (width b) (room b) _ (numbers b) (cells b) (begun-refused (sym (begins b) ∙ c .before .begun .given .1)) (cleared b) in
+    let k = c .before .before .before in
+    let b = k .before .before .before in
+    let x = outcome-refused (start b .args .table .now) (width b) (room b) _ (numbers b) _ (begun-refused (sym (begins b) ∙ k .before .begun .given .1))
+    (record { numbers = clearing b .clear-headings .ensures; cells = c .before .clear-cells .ensures }) in
     (x .answer, (x .numbers, x .cells))
 
 -- ---- the entries
@@ -83,7 +77,7 @@ convert-entries-requires : tie.Need-convert-entries-requires
 convert-entries-requires c κs =
     let k = c .before .before in
     let b = beginning k in
-    admitted-due (start b .args .table .now) (width b) (room b) (count k) (numbers b) (cells b) (cleared b) (passes k)
+    admitted-due (start b .args .table .now) (width b) (count k) (numbers b) (start b .args .pool .now) (clearing b .clear-headings .ensures) (passes k)
 
 same-length-3 : tie.Need-same-length-3
 same-length-3 c = search needs
@@ -97,16 +91,17 @@ returns-2 c =
     let k = e .before .before .before in
     let b = beginning k in
     let t = start b .args .table .now in
-    let x = outcome-entries t (width b) (room b) (count k) _ _ _ (passes k) (rw (clearing b .clear .kept .0, clearing b .clear .kept .1 .0) at (e .convert-entries .ensures)) in
+    let x = outcome-entries t (width b) (room b) (count k) _ _ _ (passes k) (rw (clearing b .clear-headings .kept .0) at (e .convert-entries .ensures)) in
     (x .answer, (x .numbers, x .cells))
 
 pub convert-spec : {M : Type 1} → statement M
 convert-spec =
     tie.close
     (tie.spec
-    clear-requires
+    clear-headings-requires
     begin-requires
     enum-known-begun
+    clear-cells-requires
     enum-known-begun-2
     convert-entries-requires
     same-length

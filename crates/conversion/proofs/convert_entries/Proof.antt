@@ -126,14 +126,20 @@ loop-again c =
 
 -- ---- all entries stand
 
+clear-cells-requires : tie.Need-clear-cells-requires Inv-loop μ-loop
+clear-cells-requires c κs = c .before .before .loop .inv .stores .fits
+
+abbrev ending : tie.After-pool3 Inv-loop μ-loop → tie.After-loop Inv-loop μ-loop
+ending c = c .before .before .before
+
 same-length-3 : tie.Need-same-length-3 Inv-loop μ-loop
-same-length-3 c = c .before .loop .inv .numbers
+same-length-3 c = ending c .before .loop .inv .numbers
 
 same-length-4 : tie.Need-same-length-4 Inv-loop μ-loop
-same-length-4 c = c .before .loop .inv .cells
+same-length-4 c = c .before .clear-cells .kept .0 ∙ ending c .before .loop .inv .cells
 
 returns-2 : tie.Need-returns-2 Inv-loop μ-loop
-returns-2 c = standing-ended _ _ _ _ _ _ _ _ (c .before .loop .inv) (c .loop-test .left)
+returns-2 c = let l = ending c in standing-ended _ _ _ _ _ _ _ _ (l .before .loop .inv) (l .loop-test .left) _ (c .before .clear-cells .ensures)
 
 pub convert-entries-spec : {M : Type 1} → statement M
 convert-entries-spec =
@@ -153,6 +159,7 @@ convert-entries-spec =
     add-k
     loop-less
     loop-again
+    clear-cells-requires
     same-length-3
     same-length-4
     returns-2)

@@ -1,4 +1,4 @@
--- `entering::write` meets its contract: what the working row's labels are decides, by checks 12 and 11; where they pass, the row is cut to its least row.
+-- `entering::write` meets its contract: what the working row's labels are decides, by checks 12 and 11; where they pass, its least row is entered.
 -- Assumes nothing.
 use mathlib.Core.Path.{sym, _∙_, ap}
 use borrow.Author.Needs.{needs}
@@ -90,7 +90,7 @@ same-length-4 c = search needs
 
 returns-3 : tie.Need-returns-3
 returns-3 c =
-    let n = c .before .before .before in
+    let n = c .before .before in
     let t = n .before .before .before .before .before in
     let l = t .before .before .before in
     let s = l .before .before .before .before .before .before in

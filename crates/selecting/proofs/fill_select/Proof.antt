@@ -1,25 +1,30 @@
--- `selecting::fill_select` meets its contract: each turn of the loop writes the cell of one instant, whose granule is decided where its first label shows.
---     Begun        before the loop: its invariant, and the rows that are lent
---     Turning      a turn: what its step finds, and what holds behind it
+-- `selecting::fill_select` meets its contract: each turn of the loop decides a granule of a and writes the cells of its instants.
+--     Begun        before the loop: its invariant, the rows that are lent, and the cells before the first label
+--     Turning      a turn: what is decided, and what holds behind it
 -- Assumes nothing.
-use borrow.Author.Needs.{needs}
 use borrow.Author.Tests.{not-true}
 use mathlib.Core.Path.{_≡_, refl, sym, _∙_}
 use mathlib.Core.Bool.{true}
+use mathlib.Core.List.{List}
+use Prim.Native.Nat.{_-_, _^_, _≤_, _<_}
 use native.Mathlib.Omega.{arith}
+use lib.IntN.{ℤ, pos, _+ℤ_}
+use lib.Signed.{_≤ℤ_}
+use lib.ListN.{length}
 use mir.Facts.{toZ-ofZ}
 use mir.Syntax.{w64}
 use mir.Val.{toZ, ofZ}
 use Rattle.integers.proofs.Linear.{ints, _∴_}
+use Rattle.integers.proofs.Machine.{plain}
+use Rattle.calendar.specs.Meaning.{meant}
 use Rattle.calendar.specs.Checks.{sound}
-use Rattle.granules.proofs.Tests.{true≢false}
-use Rattle.rows.specs.Found.{found}
-use Rattle.rows.specs.Cursor.{Standing}
-use Rattle.filling.proofs.Turns.{turn-instant, turn-out, turn-done}
-use Rattle.filling.proofs.Decided.{knows-next}
-use Rattle.selecting.proofs.Chosen.{recalls-none}
-use Rattle.selecting.proofs.fill_select.Proof.Begun.{Inv-loop, μ-loop, by, old, a-row, b-row, start, as-filled, a-sound, b-sound, a-valid, test-of, a-part, b-part}
-use Rattle.selecting.proofs.fill_select.Proof.Turning.{near-zero, base, instant, turn-of, same, index, near, kept, turn-at, loop-at, label, label-fits, label-some, fresh-at, Asks, chosen, met, in-of, at-of, stored, turned, same-stored, kept-stored, a-next, b-next}
+use Rattle.rows.specs.Found.{Near}
+use Rattle.rows.specs.Cursor.{cursorAt, Standing, Shown}
+use Rattle.filling.proofs.Turns.{rowOf, turn-length, rows-kept, rows-stood, turn-out, turn-done}
+use Rattle.stretches.specs.Stretch.{Follows}
+use Rattle.stretches.proofs.Stages.{room-a}
+use Rattle.selecting.proofs.fill_select.Proof.Begun.{Inv-loop, μ-loop, entry, old, A, B, a-row, b-row, start, as-filled, a-sound, b-sound, a-part, b-part, led-pool, led, led-part, led-few}
+use Rattle.selecting.proofs.fill_select.Proof.Turning.{at-of, base, Holds, holds, same, inside, few, kept, in-of, loop-at, label, label-is, label-fits, Asks, shown, decided-of, at-label, given-label, given-result, in-range, Filled, labelled-of, at-filled, filled-pool, filled, goes-on}
 use Rattle.selecting.proofs.fill_select.Statement.{statement}
 use Rattle.selecting.proofs.fill_select.Tie as tie
 mod Begun
@@ -33,76 +38,64 @@ end-of-requires c κs = (c .pre .1 .a-period, c .pre .1 .a-end)
 end-of-requires-2 : tie.Need-end-of-requires-2 Inv-loop μ-loop
 end-of-requires-2 c κs = let s = c .before .before .before in (s .pre .1 .b-period, s .pre .1 .b-end)
 
--- ---- the cursors of the instant 0
+-- ---- up to the first label
+
+fill-leading-requires : tie.Need-fill-leading-requires Inv-loop μ-loop
+fill-leading-requires c κs = let k = c .before in room-a _ (A k) (B k) _ _ (old k) _ _ _ (start k) (a-sound k)
 
 mul-cursor-at : tie.Need-mul-cursor-at Inv-loop μ-loop
-mul-cursor-at c = let h = a-part c (old c) refl in omega arith
+mul-cursor-at c = let h = led-part (c .before) in omega arith
 
 sub-cursor-at : tie.Need-sub-cursor-at Inv-loop μ-loop
-sub-cursor-at c = a-part c (old c) refl .0
+sub-cursor-at c = led-part (c .before) .0
 
 part-cursor-at-start : tie.Need-part-cursor-at-start Inv-loop μ-loop
-part-cursor-at-start c = a-part (c .before) (old (c .before)) refl .0
+part-cursor-at-start c = led-part (c .before .before) .0
 
 part-cursor-at-end : tie.Need-part-cursor-at-end Inv-loop μ-loop
-part-cursor-at-end c = a-part (c .before) (old (c .before)) refl .1
+part-cursor-at-end c = led-part (c .before .before) .1
+
+cast-cursor-at : tie.Need-cast-cursor-at Inv-loop μ-loop
+cast-cursor-at c = let h = led-few (c .before .before .before .before) in simp ints (omega arith)
 
 cursor-at-requires : tie.Need-cursor-at-requires Inv-loop μ-loop
-cursor-at-requires c κs = (a-sound (c .before .before), near-zero)
-
-mul-cursor-at-2 : tie.Need-mul-cursor-at-2 Inv-loop μ-loop
-mul-cursor-at-2 c = let k = c .before .before .before in let h = b-part k (old k) refl in omega arith
-
-sub-cursor-at-2 : tie.Need-sub-cursor-at-2 Inv-loop μ-loop
-sub-cursor-at-2 c = let k = c .before .before .before in b-part k (old k) refl .0
-
-part-cursor-at-start-2 : tie.Need-part-cursor-at-start-2 Inv-loop μ-loop
-part-cursor-at-start-2 c = let k = c .before .before .before .before in b-part k (old k) refl .0
-
-part-cursor-at-end-2 : tie.Need-part-cursor-at-end-2 Inv-loop μ-loop
-part-cursor-at-end-2 c = let k = c .before .before .before .before in b-part k (old k) refl .1
-
-cursor-at-requires-2 : tie.Need-cursor-at-requires-2 Inv-loop μ-loop
-cursor-at-requires-2 c κs = (b-sound (c .before .before .before .before .before), near-zero)
+cursor-at-requires c κs =
+    let f = c .before .before .before .before in
+    let h = led-few f in
+    let n : f .fill-leading .result .t < 2 ^ 63 = omega arith in
+    rows-kept _ _ _ _ _ _ _ _ _ (led f) (λ x y. (sound y ≡ true) × Near (toZ w64 (ofZ w64 (pos (f .fill-leading .result .t))))) (b-sound (f .before .before), simp plain (simp ints (omega arith)))
 
 unknown-requires : tie.Need-unknown-requires Inv-loop μ-loop
 unknown-requires c κs = tt
 
 loop-holds : tie.Need-loop-holds Inv-loop μ-loop
-loop-holds c =
-    let k = c .before .before .before .before .before .before .before in
-    (start k, c .before .before .before .before .cursor-at .ensures, c .before .cursor-at2 .ensures, λ e. absurd (true≢false e refl), recalls-none (by k) (a-row k) (b-row k) _ (c .unknown .ensures))
+loop-holds c = λ x h. h
 
--- ---- an instant
+-- ---- a granule
 
-mul-cursor-label : tie.Need-mul-cursor-label Inv-loop μ-loop
-mul-cursor-label c = let h = a-part (base (c .before)) (c .before .loop .pool) (same (c .before)) in omega arith
+mul-label-of : tie.Need-mul-label-of Inv-loop μ-loop
+mul-label-of c = let l = at-of c in let h = a-part (base l) (l .loop .pool) (same l) in omega arith
 
-sub-cursor-label : tie.Need-sub-cursor-label Inv-loop μ-loop
-sub-cursor-label c = a-part (base (c .before)) (c .before .loop .pool) (same (c .before)) .0
+sub-label-of : tie.Need-sub-label-of Inv-loop μ-loop
+sub-label-of c = let l = at-of c in a-part (base l) (l .loop .pool) (same l) .0
 
-part-cursor-label-start : tie.Need-part-cursor-label-start Inv-loop μ-loop
-part-cursor-label-start c = let l = c .before .before in a-part (base l) (l .loop .pool) (same l) .0
+part-label-of-start : tie.Need-part-label-of-start Inv-loop μ-loop
+part-label-of-start c = let l = at-of (c .before) in a-part (base l) (l .loop .pool) (same l) .0
 
-part-cursor-label-end : tie.Need-part-cursor-label-end Inv-loop μ-loop
-part-cursor-label-end c = let l = c .before .before in a-part (base l) (l .loop .pool) (same l) .1
+part-label-of-end : tie.Need-part-label-of-end Inv-loop μ-loop
+part-label-of-end c = let l = at-of (c .before) in a-part (base l) (l .loop .pool) (same l) .1
 
-cursor-label-requires : tie.Need-cursor-label-requires Inv-loop μ-loop
-cursor-label-requires c κs =
+label-of-requires : tie.Need-label-of-requires Inv-loop μ-loop
+label-of-requires c κs =
     let i = c .before .before in
-    let l = i .before in
-    kept l (λ x y. (sound x ≡ true) × Standing x (l .loop .c)) (a-sound (base l), (instant l, near i, l .loop .inv .1))
-
-enum-known-label : tie.Need-enum-known-label Inv-loop μ-loop
-enum-known-label c = search needs
-
-enum-told : tie.Need-enum-told Inv-loop μ-loop
-enum-told c = search needs
-
--- ---- a label j
+    let l = at-of i in
+    let k = base l in
+    let h = holds l in
+    let n = few i in
+    kept l (old k) h (λ x y. (sound x ≡ true) × Shown x (l .loop .reached .cursor)) (a-sound k, (pos (l .loop .reached .t), simp ints (omega arith), h .stage .follows .cursor, h .stage .stops (inside i)))
 
 cast-decided : tie.Need-cast-decided Inv-loop μ-loop
-cast-decided c = near (turn-at (c .before)) ∴ simp ints (omega arith)
+cast-decided c = let h = few (in-of (c .before)) in simp ints (omega arith)
 
 mul-decided : tie.Need-mul-decided Inv-loop μ-loop
 mul-decided c = let l = loop-at (c .before) in let h = a-part (base l) (l .loop .pool) (same l) in omega arith
@@ -130,88 +123,115 @@ part-decided-end-2 c = let l = loop-at (c .before .before .before) in b-part (ba
 
 decided-requires : tie.Need-decided-requires Inv-loop μ-loop
 decided-requires c κs =
-    let f = c .before .before .before in
-    let k = f .before in
-    let l = loop-at k in
-    let i = l .loop .inv in
-    kept l (Asks l (toZ w64 (l .loop .t)) (toZ w64 (ofZ w64 (label k))))
-    (rw (turn-instant _ _ _ _ _ _ _ _ _ (turn-of l) (turn-at k .loop-test .taken), toZ-ofZ (label-fits k))
-    (a-sound (base l), (b-sound (base l), (start (base l) .lends .is-given .numbers, (i .4, (near (turn-at k) ∴ simp ints (omega arith), (label-some k, (i .1, (i .2, fresh-at f)))))))))
+    let s = c .before .before .before .before in
+    let l = loop-at s in
+    let k = base l in
+    let h = holds l in
+    let n = few (in-of s) in
+    let m : l .loop .reached .t < 2 ^ 63 = omega arith in
+    let j = label-fits s in
+    let e = label-is s (old k) h in
+    kept l (old k) h (Asks l (toZ w64 (ofZ w64 (pos (l .loop .reached .t)))) (toZ w64 (ofZ w64 (label s))))
+    (simp plain (a-sound k, (b-sound k, (start k .lends .is-given .numbers, (h .remembers, (simp ints (omega arith), (e, (h .stage .follows .cursor, (h .is-cursor, λ f. h .begins f (inside (in-of s)) (label s) e)))))))))
 
--- ---- the label that is written
+kept-requires : tie.Need-kept-requires Inv-loop μ-loop
+kept-requires c κs = tt
 
-add-store : tie.Need-add-store Inv-loop μ-loop
-add-store c = let h = index (c .before .before .before .before) in omega arith
-
-store-requires : tie.Need-store-requires Inv-loop μ-loop
-store-requires c κs = index (c .before .before .before .before .before) .0
+in-limits-requires : tie.Need-in-limits-requires Inv-loop μ-loop
+in-limits-requires c κs = tt
 
 same-length : tie.Need-same-length Inv-loop μ-loop
-same-length c = let e = c .before .before in e .store .ensures .1 .0 ∙ same (e .before .before .before .before .before .before .before)
+same-length c = same (at-label (c .before .before))
 
 returns : tie.Need-returns Inv-loop μ-loop
 returns c =
-    let n = c .before .before in
-    let m = n .before .before in
-    let i = m .before .before .before .before in
-    as-filled (base (i .before)) _ _
-    (turn-out _ _ _ _ _ _ _ _ _ (turn-of (i .before)) (i .loop-test .taken) (found (m .match .kept)) (chosen m .is-label) _ (n .store .ensures .1 .0) (sym (n .store .ensures .0) ∙ not-true _ (c .if4 .taken)))
+    let y = c .before .before in
+    let l = at-label y in
+    as-filled (base l) _ _
+    (turn-out _ _ _ _ _ _ _ _ _ (holds l .stage .turn) (inside (in-of (shown (decided-of y)))) (given-label y) (given-result y) _ refl (sym (c .before .in-limits .ensures) ∙ not-true _ (c .if2 .taken)))
+
+cell-of-requires : tie.Need-cell-of-requires Inv-loop μ-loop
+cell-of-requires c κs = in-range c
+
+-- ---- its instants
+
+fill-stretch-requires : tie.Need-fill-stretch-requires Inv-loop μ-loop
+fill-stretch-requires c κs =
+    let l = at-label (c .before .before .before .before) in
+    let k = base l in
+    let h = holds l in
+    (room-a _ (A k) (B k) _ _ (old k) _ _ _ (h .stage .turn) (a-sound k), kept l (old k) h (λ x y. Follows x (entry k .args .period) (l .loop .reached)) (h .stage .follows))
+
+filled-part : (c : Filled) → let k = base (at-filled c) in (B k .start ≤ B k .end) × (B k .end ≤ length (filled-pool c)) × (B k .end ≤ 1048576)
+filled-part c = let l = at-filled c in let k = base l in b-part k (filled-pool c) (turn-length _ _ _ _ _ _ _ _ _ (filled c (old k) (holds l) _ refl .stage .turn))
+
+filled-few : (c : Filled) → c .fill-stretch .result .t ≤ 1048576
+filled-few c = let l = at-filled c in let k = base l in let h = filled c (old k) (holds l) _ refl .stage in let d = h .turn .lends in omega (arith, h .follows .in-room, d .room, d .few)
+
+mul-cursor-on : tie.Need-mul-cursor-on Inv-loop μ-loop
+mul-cursor-on c = let h = filled-part (c .before) in omega arith
+
+sub-cursor-on : tie.Need-sub-cursor-on Inv-loop μ-loop
+sub-cursor-on c = filled-part (c .before) .0
+
+part-cursor-on-start : tie.Need-part-cursor-on-start Inv-loop μ-loop
+part-cursor-on-start c = filled-part (c .before .before) .0
+
+part-cursor-on-end : tie.Need-part-cursor-on-end Inv-loop μ-loop
+part-cursor-on-end c = filled-part (c .before .before) .1
+
+sub-cursor-on-2 : tie.Need-sub-cursor-on-2 Inv-loop μ-loop
+sub-cursor-on-2 c = let h = goes-on (c .before .before .before .before .before) in omega arith
+
+cast-cursor-on : tie.Need-cast-cursor-on Inv-loop μ-loop
+cast-cursor-on c = let h = filled-few (c .before .before .before .before .before) in simp ints (omega arith)
+
+cursor-on-requires : tie.Need-cursor-on-requires Inv-loop μ-loop
+cursor-on-requires c κs =
+    let f = c .before .before .before .before .before in
+    let l = at-filled f in
+    let k = base l in
+    let p = l .loop .reached .t in
+    let n = filled-few f in
+    let g = goes-on f in
+    let m : f .fill-stretch .result .t - p < 2 ^ 63 = omega arith in
+    let h = holds l in
+    rows-kept _ _ _ _ _ _ _ _ _ (filled f (old k) h _ refl .stage .turn)
+    (λ x y. (sound y ≡ true) × (Standing y (l .loop .b-cursor) × ((pos 0 ≤ℤ toZ w64 (ofZ w64 (pos (f .fill-stretch .result .t - p)))) × (toZ w64 (ofZ w64 (pos (f .fill-stretch .result .t - p))) ≤ℤ pos (2 ^ 32)))))
+    (simp plain (b-sound k, ((pos p, simp ints (omega arith), h .is-cursor), (simp ints (omega arith), simp ints (omega arith)))))
+
+-- the cursor of the next instant
+next-cursor : (c : tie.After-cursor-on Inv-loop μ-loop) (x : List ℤ) → let f = c .before .before .before .before .before .before in let l = at-filled f in Holds l x
+    → c .cursor-on .result ≡ cursorAt (rowOf (B (base l)) x) (pos (f .fill-stretch .result .t))
+next-cursor c x h =
+    let f = c .before .before .before .before .before .before in
+    let l = at-filled f in
+    let p = l .loop .reached .t in
+    let q = f .fill-stretch .result .t in
+    let n = filled-few f in
+    let g = goes-on f in
+    let m : q - p < 2 ^ 63 = omega arith in
+    let t = filled f x h _ refl .stage .turn in
+    let e : pos p +ℤ pos (q - p) ≡ pos q = simp ints (omega arith) in
+    rows-stood _ _ _ _ _ _ _ _ _ t (λ y z. c .cursor-on .result ≡ cursorAt z (pos q))
+    (rw e at ((simp plain at (c .cursor-on .ensures)) (pos p) (rows-kept _ _ _ _ _ _ _ _ _ t (λ y z. l .loop .b-cursor ≡ cursorAt z (pos p)) (h .is-cursor))))
 
 any-requires : tie.Need-any-requires Inv-loop μ-loop
 any-requires c κs = tt
 
--- ---- the next instant
-
-mul-cursor-next : tie.Need-mul-cursor-next Inv-loop μ-loop
-mul-cursor-next c = let h = a-part (base (at-of c)) (stored c) (same-stored c) in omega arith
-
-sub-cursor-next : tie.Need-sub-cursor-next Inv-loop μ-loop
-sub-cursor-next c = a-part (base (at-of c)) (stored c) (same-stored c) .0
-
-part-cursor-next-start : tie.Need-part-cursor-next-start Inv-loop μ-loop
-part-cursor-next-start c = let m = c .before in a-part (base (at-of m)) (stored m) (same-stored m) .0
-
-part-cursor-next-end : tie.Need-part-cursor-next-end Inv-loop μ-loop
-part-cursor-next-end c = let m = c .before in a-part (base (at-of m)) (stored m) (same-stored m) .1
-
-cursor-next-requires : tie.Need-cursor-next-requires Inv-loop μ-loop
-cursor-next-requires c κs =
-    let m = c .before .before in
-    let l = at-of m in
-    kept-stored m (λ x y. (sound x ≡ true) × Standing x (l .loop .c)) (a-sound (base l), (instant l, near (in-of m), l .loop .inv .1))
-
-mul-cursor-next-2 : tie.Need-mul-cursor-next-2 Inv-loop μ-loop
-mul-cursor-next-2 c = let m = c .before .before .before in let h = b-part (base (at-of m)) (stored m) (same-stored m) in omega arith
-
-sub-cursor-next-2 : tie.Need-sub-cursor-next-2 Inv-loop μ-loop
-sub-cursor-next-2 c = let m = c .before .before .before in b-part (base (at-of m)) (stored m) (same-stored m) .0
-
-part-cursor-next-start-2 : tie.Need-part-cursor-next-start-2 Inv-loop μ-loop
-part-cursor-next-start-2 c = let m = c .before .before .before .before in b-part (base (at-of m)) (stored m) (same-stored m) .0
-
-part-cursor-next-end-2 : tie.Need-part-cursor-next-end-2 Inv-loop μ-loop
-part-cursor-next-end-2 c = let m = c .before .before .before .before in b-part (base (at-of m)) (stored m) (same-stored m) .1
-
-cursor-next-requires-2 : tie.Need-cursor-next-requires-2 Inv-loop μ-loop
-cursor-next-requires-2 c κs =
-    let m = c .before .before .before .before .before in
-    let l = at-of m in
-    kept-stored m (λ x y. (sound y ≡ true) × Standing y (l .loop .d)) (b-sound (base l), (instant l, near (in-of m), l .loop .inv .2))
-
-add-t : tie.Need-add-t Inv-loop μ-loop
-add-t c = let h = index (in-of (c .before .before .before .before .before .before)) in omega arith
-
 loop-less : tie.Need-loop-less Inv-loop μ-loop
-loop-less c = omega (arith, in-of (c .before .before .before .before .before .before) .loop-test .taken)
+loop-less c =
+    let f = c .before .before .before .before .before .before .before .before in
+    let k = base (at-filled f) in
+    let h = filled f (old k) (holds (at-filled f)) _ refl .stage .follows .in-room in
+    omega (arith, goes-on f, h)
 
 loop-again : tie.Need-loop-again Inv-loop μ-loop
-loop-again c =
-    let n = c .before .before .before in
-    let m = n .before .before .before in
-    let l = at-of m in
-    let k = base l in
-    let h = chosen (met m) in
-    (turned m, a-next n, b-next c, λ e. knows-next (a-row k) (test-of k) (a-valid k) (instant l) _ _ (h .knows e), h .remembers)
+loop-again c = λ x g.
+    let f = c .before .before .before .before .before .before .before .before in
+    let l = at-filled f in
+    let h = l .loop .inv x g in
+    rw (c .any .ensures) (filled f x h (c .before .before .cursor-on .result) (next-cursor (c .before .before) x h))
 
 -- ---- the end
 
@@ -219,12 +239,12 @@ outcome-requires : tie.Need-outcome-requires Inv-loop μ-loop
 outcome-requires c κs = tt
 
 same-length-2 : tie.Need-same-length-2 Inv-loop μ-loop
-same-length-2 c = same (c .before .before)
+same-length-2 c = same (c .before .before .before)
 
 returns-2 : tie.Need-returns-2 Inv-loop μ-loop
 returns-2 c =
-    let l = c .before .before in
-    as-filled (base l) _ _ (rw (c .outcome .ensures) (turn-done _ _ _ _ _ _ _ _ _ (turn-of l) (c .before .loop-test .left)))
+    let l = c .before .before .before in
+    as-filled (base l) _ _ (rw (c .outcome .ensures) (turn-done _ _ _ _ _ _ _ _ _ (holds l .stage .turn) (c .before .if1 .left)))
 
 pub fill-select-spec : {M : Type 1} → statement M
 fill-select-spec =
@@ -234,24 +254,20 @@ fill-select-spec =
     μ-loop
     end-of-requires
     end-of-requires-2
+    fill-leading-requires
     mul-cursor-at
     sub-cursor-at
     part-cursor-at-start
     part-cursor-at-end
+    cast-cursor-at
     cursor-at-requires
-    mul-cursor-at-2
-    sub-cursor-at-2
-    part-cursor-at-start-2
-    part-cursor-at-end-2
-    cursor-at-requires-2
     unknown-requires
     loop-holds
-    mul-cursor-label
-    sub-cursor-label
-    part-cursor-label-start
-    part-cursor-label-end
-    cursor-label-requires
-    enum-known-label
+    mul-label-of
+    sub-label-of
+    part-label-of-start
+    part-label-of-end
+    label-of-requires
     cast-decided
     mul-decided
     sub-decided
@@ -262,23 +278,20 @@ fill-select-spec =
     part-decided-start-2
     part-decided-end-2
     decided-requires
-    enum-told
-    add-store
-    store-requires
+    kept-requires
+    in-limits-requires
     same-length
     returns
+    cell-of-requires
+    fill-stretch-requires
+    mul-cursor-on
+    sub-cursor-on
+    part-cursor-on-start
+    part-cursor-on-end
+    sub-cursor-on-2
+    cast-cursor-on
+    cursor-on-requires
     any-requires
-    mul-cursor-next
-    sub-cursor-next
-    part-cursor-next-start
-    part-cursor-next-end
-    cursor-next-requires
-    mul-cursor-next-2
-    sub-cursor-next-2
-    part-cursor-next-start-2
-    part-cursor-next-end-2
-    cursor-next-requires-2
-    add-t
     loop-less
     loop-again
     outcome-requires

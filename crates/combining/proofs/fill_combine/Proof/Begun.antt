@@ -1,19 +1,17 @@
--- Before the loop of combine: its invariant, the rows that are lent, and that it holds there.
+-- Before the loop of `combining::fill_combine`: its invariant, and the rows that are lent.
 -- Assumes nothing.
 use borrow.Author.Needs.{sfits-of}
 use mathlib.Core.Path.{_≡_, refl}
-use mathlib.Core.Bool.{Bool, true, false}
+use mathlib.Core.Bool.{true, false}
 use mathlib.Core.List.{List}
-use Prim.Native.Nat.{_-_, _≤_}
+use Prim.Native.Nat.{_-_, _^_, _≤_, _<_}
 use native.Mathlib.Omega.{arith}
-use lib.IntN.{ℤ, pos, _-ℤ_}
+use lib.IntN.{ℤ, pos}
 use lib.ListN.{length}
-use Rattle.integers.proofs.Linear.{ints}
+use Rattle.integers.proofs.Machine.{plain}
 use Rattle.calendar.specs.Meaning.{Row}
 use Rattle.calendar.specs.Checks.{sound}
 use Rattle.granules.specs.Valid.{Valid}
-use Rattle.granules.proofs.Tests.{true≢false}
-use Rattle.rows.specs.Found.{Near}
 use Rattle.rows.specs.Cursor.{cursorAt}
 use Rattle.rows.proofs.Numbers.{valid}
 use Rattle.operands.specs.declared.Kind.the-variants.{Combine}
@@ -21,23 +19,20 @@ use Rattle.operands.specs.Operations.{operationOf}
 use Rattle.operands.specs.Stands.{rowIn}
 use Rattle.filling.specs.declared.Filled.{Filled}
 use Rattle.filling.proofs.Cells.{lent-is}
-use Rattle.filling.proofs.Turns.{Lent, Turn, Fills, lentAs, lentOf, rowOf, first-two, fills-two}
-use Rattle.filling.proofs.Decided.{Knows}
-use Rattle.combining.proofs.Lying.{liesFirst}
+use Rattle.filling.proofs.Turns.{Lent, Turn, Fills, lentAs, lentOf, rowOf, first-two, fills-two, turn-length, rows-stood}
+use Rattle.stretches.proofs.Turns.{turn-led}
+use Rattle.combining.proofs.Granules.{Combining, unlabelled, combining-none}
 use Rattle.combining.proofs.fill_combine.Tie as tie
 
 abbrev pub Inv-loop : tie.InvT-loop
-Inv-loop span at period pool₀ a-start a-end a-period a-distance b-start b-end b-period b-distance c₀ d₀ decided₀ of₀ holds₀ labelled₀ t₀ pool c d decided of holds labelled t =
+Inv-loop span at period pool₀ a-start a-end a-period a-distance b-start b-end b-period b-distance reached₀ a-cursor₀ fresh₀ labelled₀ pool reached a-cursor fresh labelled =
     let a = lentAs a-start a-end a-period a-distance in
     let b = lentAs b-start b-end b-period b-distance in
-    Turn Combine a b at period pool₀ pool labelled t
-    × (c ≡ cursorAt (rowOf a pool₀) (pos t))
-    × (d ≡ cursorAt (rowOf b pool₀) (pos t))
-    × (decided ≡ true → Knows (rowOf b pool₀) (liesFirst (rowOf a pool₀) (rowOf b pool₀)) (pos t -ℤ pos 1) of holds)
+    (old : List ℤ) → Combining a b at period old pool₀ reached₀ a-cursor₀ fresh₀ labelled₀ → Combining a b at period old pool reached a-cursor fresh labelled
 
 abbrev pub μ-loop : tie.MeasureT-loop
-μ-loop span at period pool₀ a-start a-end a-period a-distance b-start b-end b-period b-distance c₀ d₀ decided₀ of₀ holds₀ labelled₀ t₀ pool c d decided of holds labelled t =
-    period - t
+μ-loop span at period pool₀ a-start a-end a-period a-distance b-start b-end b-period b-distance reached₀ a-cursor₀ fresh₀ labelled₀ pool reached a-cursor fresh labelled =
+    period - reached .t
 
 -- ---- the rows that are lent, as they stood before the loop
 
@@ -71,7 +66,7 @@ b-is : (k : Base) → b-row k ≡ rowIn (old k) (entry k .args .b)
 b-is k = lent-is (entry k .args .b) _ _ (k .before .before .end-of2 .ensures) (sfits-of (k .before .struct-told3 .given .1 .0 .1)) (sfits-of (k .struct-told4 .given .1 .1 .0 .1))
 
 -- what holds before the loop
-start : (k : Base) → let s = entry k in Turn Combine (A k) (B k) (s .args .at) (s .args .period) (old k) (old k) false 0
+pub start : (k : Base) → let s = entry k in Turn Combine (A k) (B k) (s .args .at) (s .args .period) (old k) (old k) false 0
 start k =
     let s = entry k in
     first-two _ _ refl (s .args .a) (s .args .b) _ _ _ _ _ (k .before .before .before .before .before .end-of .ensures) (a-is k) _ (k .before .before .end-of2 .ensures) (b-is k) (s .pre .0) (s .pre .1)
@@ -92,10 +87,6 @@ b-sound k = start k .lends .is-given .sounds .1
 pub b-valid : (k : Base) → Valid (b-row k)
 b-valid k = valid (B k .period) (B k .distance) (b-row k .cells) (b-sound k)
 
--- what is decided of b's granules
-abbrev pub test-of : Base → ℤ → Bool
-test-of k = liesFirst (a-row k) (b-row k)
-
 -- the parts that are lent lie in the pool
 pub a-part : (k : Base) (new : List ℤ) → length new ≡ length (old k) → (A k .start ≤ A k .end) × (A k .end ≤ length new) × (A k .end ≤ 1048576)
 a-part k new e = let l = start k .lends in (l .a-start, omega (arith, l .a-end, l .room), omega (arith, l .a-end, l .room, l .few))
@@ -103,48 +94,31 @@ a-part k new e = let l = start k .lends in (l .a-start, omega (arith, l .a-end, 
 pub b-part : (k : Base) (new : List ℤ) → length new ≡ length (old k) → (B k .start ≤ B k .end) × (B k .end ≤ length new) × (B k .end ≤ 1048576)
 b-part k new e = let l = start k .lends in (l .b-start, omega (arith, l .b-end, l .room), omega (arith, l .b-end, l .room, l .few))
 
--- ---- what is asked before the loop
+-- ---- up to the first label
 
-pub end-of-requires : tie.Need-end-of-requires Inv-loop μ-loop
-end-of-requires c κs = (c .pre .1 .a-period, c .pre .1 .a-end)
+-- the pool then
+abbrev pub led-pool : tie.After-fill-leading Inv-loop μ-loop → List ℤ
+led-pool c = c .fill-leading .last .1 .1 .0
 
-pub end-of-requires-2 : tie.Need-end-of-requires-2 Inv-loop μ-loop
-end-of-requires-2 c κs = let s = c .before .before .before in (s .pre .1 .b-period, s .pre .1 .b-end)
+pub led : (c : tie.After-fill-leading Inv-loop μ-loop) → let k = c .before .before in let s = entry k in
+    Turn Combine (A k) (B k) (s .args .at) (s .args .period) (old k) (led-pool c) false (c .fill-leading .result .t)
+led c =
+    let k = c .before .before in
+    turn-led _ (A k) (B k) _ _ (old k) (b-row k) _ _ (start k) (c .fill-leading .ensures) (unlabelled (A k) (B k) (entry k .args .at) (entry k .args .period) (old k))
 
-near-zero : Near (pos 0)
-near-zero = simp ints (omega arith)
+pub led-part : (c : tie.After-fill-leading Inv-loop μ-loop) → let k = c .before .before in (A k .start ≤ A k .end) × (A k .end ≤ length (led-pool c)) × (A k .end ≤ 1048576)
+led-part c = a-part (c .before .before) (led-pool c) (turn-length _ _ _ _ _ _ _ _ _ (led c))
 
-pub mul-cursor-at : tie.Need-mul-cursor-at Inv-loop μ-loop
-mul-cursor-at c = let h = a-part c (old c) refl in omega arith
+-- how far that is
+pub led-few : (c : tie.After-fill-leading Inv-loop μ-loop) → c .fill-leading .result .t ≤ 1048576
+led-few c = let l = led c .lends in omega (arith, c .fill-leading .ensures .follows .in-room, l .room, l .few)
 
-pub sub-cursor-at : tie.Need-sub-cursor-at Inv-loop μ-loop
-sub-cursor-at c = a-part c (old c) refl .0
-
-pub part-cursor-at-start : tie.Need-part-cursor-at-start Inv-loop μ-loop
-part-cursor-at-start c = a-part (c .before) (old (c .before)) refl .0
-
-pub part-cursor-at-end : tie.Need-part-cursor-at-end Inv-loop μ-loop
-part-cursor-at-end c = a-part (c .before) (old (c .before)) refl .1
-
-pub cursor-at-requires : tie.Need-cursor-at-requires Inv-loop μ-loop
-cursor-at-requires c κs = (a-sound (c .before .before), near-zero)
-
-pub mul-cursor-at-2 : tie.Need-mul-cursor-at-2 Inv-loop μ-loop
-mul-cursor-at-2 c = let k = c .before .before .before in let h = b-part k (old k) refl in omega arith
-
-pub sub-cursor-at-2 : tie.Need-sub-cursor-at-2 Inv-loop μ-loop
-sub-cursor-at-2 c = let k = c .before .before .before in b-part k (old k) refl .0
-
-pub part-cursor-at-start-2 : tie.Need-part-cursor-at-start-2 Inv-loop μ-loop
-part-cursor-at-start-2 c = let k = c .before .before .before .before in b-part k (old k) refl .0
-
-pub part-cursor-at-end-2 : tie.Need-part-cursor-at-end-2 Inv-loop μ-loop
-part-cursor-at-end-2 c = let k = c .before .before .before .before in b-part k (old k) refl .1
-
-pub cursor-at-requires-2 : tie.Need-cursor-at-requires-2 Inv-loop μ-loop
-cursor-at-requires-2 c κs = (b-sound (c .before .before .before .before .before), near-zero)
-
-pub loop-holds : tie.Need-loop-holds Inv-loop μ-loop
-loop-holds c =
-    let k = c .before .before .before .before .before .before in
-    (start k, c .before .before .before .cursor-at .ensures, c .cursor-at2 .ensures, λ e. absurd (true≢false e refl))
+-- what holds before the loop
+pub started : (c : tie.After-cursor-at Inv-loop μ-loop) → let f = c .before .before .before .before .before in let k = f .before .before in let s = entry k in
+    Combining (A k) (B k) (s .args .at) (s .args .period) (old k) (led-pool f) (f .fill-leading .result) (c .cursor-at .result) false false
+started c =
+    let f = c .before .before .before .before .before in
+    let k = f .before .before in
+    let n : f .fill-leading .result .t < 2 ^ 63 = omega (arith, led-few f) in
+    combining-none (A k) (B k) _ _ (old k) _ _ _ (start k) (f .fill-leading .ensures)
+    (rows-stood _ _ _ _ _ _ _ _ _ (led f) (λ x y. c .cursor-at .result ≡ cursorAt x (pos (f .fill-leading .result .t))) (simp plain at (c .cursor-at .ensures)))

@@ -2,42 +2,38 @@
 -- Assumes nothing.
 use borrow.Author.Needs.{sfits-of}
 use mathlib.Core.Path.{_≡_, refl}
-use mathlib.Core.Bool.{Bool, true, false}
+use mathlib.Core.Bool.{true, false}
 use mathlib.Core.List.{List}
-use Prim.Native.Nat.{_-_, _≤_}
+use Prim.Native.Nat.{_-_, _^_, _≤_, _<_}
 use native.Mathlib.Omega.{arith}
-use lib.IntN.{ℤ, pos, _-ℤ_}
+use lib.IntN.{ℤ, pos}
 use lib.ListN.{length}
+use Rattle.integers.proofs.Machine.{plain}
 use Rattle.calendar.specs.Meaning.{Row}
-use Rattle.calendar.specs.Compute.{selects}
 use Rattle.calendar.specs.Checks.{sound}
 use Rattle.granules.specs.Valid.{Valid}
 use Rattle.rows.specs.Cursor.{cursorAt}
 use Rattle.rows.proofs.Numbers.{valid}
 use Rattle.selections.specs.declared.Selection.{Selection}
-use Rattle.selections.specs.Memos.{selectionOf, Remembers}
 use Rattle.operands.specs.declared.Kind.the-variants.{Select}
 use Rattle.operands.specs.Operations.{operationOf}
 use Rattle.operands.specs.Stands.{rowIn}
 use Rattle.filling.specs.declared.Filled.{Filled}
 use Rattle.filling.proofs.Cells.{lent-is}
-use Rattle.filling.proofs.Turns.{Lent, Turn, Fills, lentAs, lentOf, rowOf, first-two, fills-two}
-use Rattle.selecting.proofs.Chosen.{Judged}
+use Rattle.filling.proofs.Turns.{Lent, Turn, Fills, lentAs, lentOf, rowOf, first-two, fills-two, turn-length, rows-stood}
+use Rattle.stretches.proofs.Turns.{turn-led}
+use Rattle.selecting.proofs.Granules.{Selecting, unlabelled, selecting-none}
 use Rattle.selecting.proofs.fill_select.Tie as tie
 
 abbrev pub Inv-loop : tie.InvT-loop
-Inv-loop by span at period pool₀ a-start a-end a-period a-distance b-start b-end b-period b-distance c₀ d₀ decided₀ of₀ holds₀ picked₀ labelled₀ t₀ pool c d decided of holds picked labelled t =
+Inv-loop by span at period pool₀ a-start a-end a-period a-distance b-start b-end b-period b-distance reached₀ b-cursor₀ fresh₀ picked₀ labelled₀ pool reached b-cursor fresh picked labelled =
     let a = lentAs a-start a-end a-period a-distance in
     let b = lentAs b-start b-end b-period b-distance in
-    Turn (Select by) a b at period pool₀ pool labelled t
-    × (c ≡ cursorAt (rowOf a pool₀) (pos t))
-    × (d ≡ cursorAt (rowOf b pool₀) (pos t))
-    × (decided ≡ true → Judged by (rowOf a pool₀) (rowOf b pool₀) (pos t -ℤ pos 1) of holds)
-    × Remembers by (rowOf a pool₀) (rowOf b pool₀) picked
+    (old : List ℤ) → Selecting by a b at period old pool₀ reached₀ b-cursor₀ fresh₀ picked₀ labelled₀ → Selecting by a b at period old pool reached b-cursor fresh picked labelled
 
 abbrev pub μ-loop : tie.MeasureT-loop
-μ-loop by span at period pool₀ a-start a-end a-period a-distance b-start b-end b-period b-distance c₀ d₀ decided₀ of₀ holds₀ picked₀ labelled₀ t₀ pool c d decided of holds picked labelled t =
-    period - t
+μ-loop by span at period pool₀ a-start a-end a-period a-distance b-start b-end b-period b-distance reached₀ b-cursor₀ fresh₀ picked₀ labelled₀ pool reached b-cursor fresh picked labelled =
+    period - reached .t
 
 -- ---- the rows that are lent, as they stood before the loop
 
@@ -95,13 +91,39 @@ b-sound k = start k .lends .is-given .sounds .1
 pub a-valid : (k : Base) → Valid (a-row k)
 a-valid k = valid (A k .period) (A k .distance) (a-row k .cells) (a-sound k)
 
--- what is decided of a's granules
-abbrev pub test-of : Base → ℤ → Bool
-test-of k = selects (selectionOf (by k)) (a-row k) (b-row k)
-
 -- the parts that are lent lie in the pool
 pub a-part : (k : Base) (new : List ℤ) → length new ≡ length (old k) → (A k .start ≤ A k .end) × (A k .end ≤ length new) × (A k .end ≤ 1048576)
 a-part k new e = let l = start k .lends in (l .a-start, omega (arith, l .a-end, l .room), omega (arith, l .a-end, l .room, l .few))
 
 pub b-part : (k : Base) (new : List ℤ) → length new ≡ length (old k) → (B k .start ≤ B k .end) × (B k .end ≤ length new) × (B k .end ≤ 1048576)
 b-part k new e = let l = start k .lends in (l .b-start, omega (arith, l .b-end, l .room), omega (arith, l .b-end, l .room, l .few))
+
+-- ---- up to the first label
+
+-- the pool then
+abbrev pub led-pool : tie.After-fill-leading Inv-loop μ-loop → List ℤ
+led-pool c = c .fill-leading .last .1 .1 .0
+
+pub led : (c : tie.After-fill-leading Inv-loop μ-loop) → let k = c .before .before in let s = entry k in
+    Turn (Select (by k)) (A k) (B k) (s .args .at) (s .args .period) (old k) (led-pool c) false (c .fill-leading .result .t)
+led c =
+    let k = c .before .before in
+    turn-led _ (A k) (B k) _ _ (old k) (a-row k) _ _ (start k) (c .fill-leading .ensures) (unlabelled (by k) (A k) (B k) (entry k .args .at) (entry k .args .period) (old k))
+
+pub led-part : (c : tie.After-fill-leading Inv-loop μ-loop) → let k = c .before .before in (B k .start ≤ B k .end) × (B k .end ≤ length (led-pool c)) × (B k .end ≤ 1048576)
+led-part c = b-part (c .before .before) (led-pool c) (turn-length _ _ _ _ _ _ _ _ _ (led c))
+
+-- how far that is
+pub led-few : (c : tie.After-fill-leading Inv-loop μ-loop) → c .fill-leading .result .t ≤ 1048576
+led-few c = let l = led c .lends in omega (arith, c .fill-leading .ensures .follows .in-room, l .room, l .few)
+
+-- what holds before the loop
+pub started : (c : tie.After-unknown Inv-loop μ-loop) → let f = c .before .before .before .before .before .before in let k = f .before .before in let s = entry k in
+    Selecting (by k) (A k) (B k) (s .args .at) (s .args .period) (old k) (led-pool f) (f .fill-leading .result) (c .before .cursor-at .result) false (c .unknown .result) false
+started c =
+    let f = c .before .before .before .before .before .before in
+    let k = f .before .before in
+    let n : f .fill-leading .result .t < 2 ^ 63 = omega (arith, led-few f) in
+    selecting-none (by k) (A k) (B k) _ _ (old k) _ _ _ _ (start k) (f .fill-leading .ensures)
+    (rows-stood _ _ _ _ _ _ _ _ _ (led f) (λ x y. c .before .cursor-at .result ≡ cursorAt y (pos (f .fill-leading .result .t))) (simp plain at (c .before .cursor-at .ensures)))
+    (c .unknown .ensures)

@@ -1,230 +1,213 @@
--- A turn of the loop of `selecting::fill_select`: what holds before an instant, what its step finds, and what holds behind it.
+-- A turn of the loop of `selecting::fill_select`: what holds before a granule, what is decided of it, and what holds behind it.
 -- Assumes nothing.
 use borrow.Author.Needs.{sfits-of}
-use borrow.Author.Tests.{not-true, not-false, eqb-true, eqb-false}
-use mathlib.Core.Path.{_≡_, sym, _∙_, ap}
-use mathlib.Core.Logic.{⊎-elim}
+use borrow.Author.Tests.{not-false}
+use mathlib.Core.Path.{_≡_, refl, sym, _∙_, ap}
 use mathlib.Core.Option.{Option, none, some}
-use mathlib.Core.Bool.{Bool, true}
+use mathlib.Core.Bool.{true, _||_}
 use mathlib.Core.List.{List}
-use Prim.Native.Nat.{ℕ, _+_, _^_, _≤_, _<_}
+use Prim.Native.Nat.{ℕ, _+_, _-_, _^_, _≤_, _<_}
 use native.Mathlib.Omega.{arith}
 use lib.IntN.{ℤ, pos, _+ℤ_}
-use lib.Dec.{eqb}
 use lib.ListN.{length}
-use mir.Facts.{toZ-ofZ}
-use mir.Syntax.{w64}
-use mir.Val.{SFits, ofZ}
+use mir.Facts.{toZ-ofZ, sfits-lit}
+use mir.Syntax.{w32, w64}
+use mir.Val.{SFits, toZ, ofZ}
 use Rattle.integers.proofs.Linear.{ints, _∴_}
+use Rattle.integers.proofs.Machine.{plain}
 use Rattle.calendar.specs.Meaning.{Row, meant}
-use Rattle.calendar.specs.Lists.{first, only}
+use Rattle.calendar.specs.Lists.{isSome, ifLabel, first, only, equal}
 use Rattle.calendar.specs.Granules.{granule}
-use Rattle.calendar.specs.Checks.{sound}
-use Rattle.granules.proofs.Tests.{true≢false}
+use Rattle.calendar.specs.Compute.{result, cellOf}
+use Rattle.calendar.specs.Checks.{sound, inRange}
+use Rattle.granules.specs.Valid.{Valid}
 use Rattle.rows.specs.Found.{found, Near, Within}
+use Rattle.rows.specs.declared.Cursor.{Cursor}
 use Rattle.rows.specs.Cursor.{cursorAt}
+use Rattle.rows.proofs.Numbers.{valid}
 use Rattle.selections.specs.Memos.{Picking, Remembers}
-use Rattle.operands.specs.declared.Kind.the-variants.{Select}
-use Rattle.filling.proofs.Points.{is-near}
-use Rattle.filling.proofs.Turns.{Turn, rowOf, turn-length, turn-index, turn-below, rows-kept, rows-stood, turn-more}
-use Rattle.filling.proofs.Decided.{knows-same, knows-new, fresh}
-use Rattle.selections.specs.declared.Picked.{Picked}
 use Rattle.selections.specs.Deciding.{Decides}
-use Rattle.selecting.proofs.Chosen.{Judged, Chosen, flag-is, chosen-as, chosen-none, chosen-some}
-use Rattle.selecting.proofs.fill_select.Proof.Begun.{Inv-loop, μ-loop, Base, entry, by, old, A, B, a-row, b-row, a-valid, test-of}
+use Rattle.operands.specs.declared.Kind.the-variants.{Select}
+use Rattle.operands.specs.Operations.{operationOf}
+use Rattle.filling.proofs.Points.{label-small}
+use Rattle.filling.proofs.Working.{range-fits}
+use Rattle.filling.proofs.Turns.{Turn, rowOf, turn-length, rows-kept, rows-stood}
+use Rattle.stretches.specs.Stretch.{Stretched}
+use Rattle.selecting.proofs.Granules.{Selecting, decided-label, selecting-next, granule-on}
+use Rattle.selecting.proofs.fill_select.Proof.Begun.{Inv-loop, μ-loop, Base, entry, by, old, A, B, a-row, b-row, a-sound, started}
 use Rattle.selecting.proofs.fill_select.Tie as tie
 
--- ---- an instant
+-- ---- before a granule
 
 abbrev At : Type 0
 At = tie.At-loop Inv-loop μ-loop
 
+-- the loop goes on
 abbrev In : Type 0
-In = tie.In-loop Inv-loop μ-loop
+In = tie.Then1 Inv-loop μ-loop
 
-pub near-zero : Near (pos 0)
-near-zero = simp ints (omega arith)
+abbrev pub at-of : In → At
+at-of c = c .before .before
 
 abbrev pub base : At → Base
-base l = l .before .before .before .before .before .before .before .before
+base l = l .before .before .before .before .before .before .before .before .before
 
-abbrev pub instant : At → ℤ
-instant l = pos (l .loop .t)
+-- what holds then, over any pool in which the rows stood
+abbrev pub Holds : At → List ℤ → Type 0
+Holds l x =
+    let k = base l in
+    let s = entry k in
+    Selecting (by k) (A k) (B k) (s .args .at) (s .args .period) x (l .loop .pool) (l .loop .reached) (l .loop .b-cursor) (l .loop .fresh) (l .loop .picked) (l .loop .labelled)
 
-abbrev pub turn-of : (l : At) → let k = base l in let s = entry k in Turn (Select (by k)) (A k) (B k) (s .args .at) (s .args .period) (old k) (l .loop .pool) (l .loop .labelled) (l .loop .t)
-turn-of l = l .loop .inv .0
+pub holds : (l : At) → Holds l (old (base l))
+holds l = l .loop .inv (old (base l)) (started (l .before))
 
 pub same : (l : At) → length (l .loop .pool) ≡ length (old (base l))
-same l = turn-length _ _ _ _ _ _ _ _ _ (turn-of l)
+same l = turn-length _ _ _ _ _ _ _ _ _ (holds l .stage .turn)
 
-pub index : (c : In) → let l = c .before in (entry (base l) .args .at + l .loop .t < length (l .loop .pool)) × (length (l .loop .pool) ≤ 1048576)
-index c = turn-index _ _ _ _ _ _ _ _ _ (turn-of (c .before)) (c .loop-test .taken)
+-- the instant is before the last one
+pub inside : (c : In) → at-of c .loop .reached .t < entry (base (at-of c)) .args .period
+inside c = c .if1 .taken
 
-pub near : (c : In) → Near (instant (c .before))
-near c = is-near (instant (c .before)) (simp ints (omega arith)) (turn-below _ _ _ _ _ _ _ _ _ (turn-of (c .before)) (c .loop-test .taken) ∴ simp ints (omega arith))
+-- and so is near
+pub few : (c : In) → at-of c .loop .reached .t < 1048576
+few c = let l = holds (at-of c) .stage .turn .lends in omega (arith, inside c, l .room, l .few)
 
--- what holds of the rows as they stood holds of them as they stand, and back
-pub kept : (l : At) (P : Row → Row → Type 0) → let k = base l in P (a-row k) (b-row k) → P (rowOf (A k) (l .loop .pool)) (rowOf (B k) (l .loop .pool))
-kept l P p = rows-kept _ _ _ _ _ _ _ _ _ (turn-of l) P p
+module _ (l : At) (x : List ℤ) (h : Holds l x) where
+  -- what holds of the rows as they stood holds of them as they stand, and back
+  pub kept : (P : Row → Row → Type 0) → let k = base l in P (rowOf (A k) x) (rowOf (B k) x) → P (rowOf (A k) (l .loop .pool)) (rowOf (B k) (l .loop .pool))
+  kept P p = rows-kept _ _ _ _ _ _ _ _ _ (h .stage .turn) P p
 
-stood : (l : At) (P : Row → Row → Type 0) → let k = base l in P (rowOf (A k) (l .loop .pool)) (rowOf (B k) (l .loop .pool)) → P (a-row k) (b-row k)
-stood l P p = rows-stood _ _ _ _ _ _ _ _ _ (turn-of l) P p
+  pub stood : (P : Row → Row → Type 0) → let k = base l in P (rowOf (A k) (l .loop .pool)) (rowOf (B k) (l .loop .pool)) → P (rowOf (A k) x) (rowOf (B k) x)
+  stood P p = rows-stood _ _ _ _ _ _ _ _ _ (h .stage .turn) P p
 
--- the label of the instant
-label-is : (c : tie.After-cursor-label Inv-loop μ-loop) → let l = c .before .before .before .before in meant (a-row (base l)) (instant l) ≡ found (c .cursor-label .result)
-label-is c =
-    let l = c .before .before .before .before in
-    stood l (λ x y. meant x (instant l) ≡ found (c .cursor-label .result))
-    (sym (c .cursor-label .ensures (instant l) (kept l (λ x y. l .loop .c ≡ cursorAt x (instant l)) (l .loop .inv .1))))
+  pub rows-sound : let k = base l in (sound (rowOf (A k) x) ≡ true) × (sound (rowOf (B k) x) ≡ true)
+  rows-sound = h .stage .turn .lends .is-given .sounds
 
--- ---- a label j
+-- ---- its label
 
 abbrev Shown : Type 0
-Shown = tie.After-known-told Inv-loop μ-loop
+Shown = tie.After-label-of Inv-loop μ-loop
 
-abbrev pub turn-at : Shown → In
-turn-at c = c .before .before .before .before .before .before
+abbrev pub in-of : Shown → In
+in-of c = c .before .before .before
 
 abbrev pub loop-at : Shown → At
-loop-at c = turn-at c .before
+loop-at c = at-of (in-of c)
 
 abbrev pub label : Shown → ℤ
-label c = c .before .label .given .0 .0
+label c = c .label-of .result
+
+pub label-is : (c : Shown) (x : List ℤ) → Holds (loop-at c) x → let l = loop-at c in meant (rowOf (A (base l)) x) (pos (l .loop .reached .t)) ≡ some (label c)
+label-is c x h =
+    let l = loop-at c in
+    let t = pos (l .loop .reached .t) in
+    stood l x h (λ y z. meant y t ≡ some (label c)) (c .label-of .ensures t (kept l x h (λ y z. l .loop .reached .cursor ≡ cursorAt y t) (h .stage .follows .cursor)))
 
 pub label-fits : (c : Shown) → SFits w64 (label c)
-label-fits c = sfits-of (c .known-told .given .0 .1)
-
-pub label-some : (c : Shown) → let l = loop-at c in meant (a-row (base l)) (instant l) ≡ some (label c)
-label-some c = label-is (c .before .before .before) ∙ ap found (c .before .label .given .1)
-
--- another granule was decided last: it is this one's first instant
-pub fresh-at : (c : tie.Joined1 Inv-loop μ-loop) → let l = loop-at (c .before) in l .loop .decided ≡ true → instant l ≡ first (granule (a-row (base l)) (label (c .before)))
-fresh-at c d =
-    let s = c .before in
-    let l = loop-at s in
+label-fits c =
+    let l = loop-at c in
     let k = base l in
-    ⊎-elim
-    (λ w. absurd (true≢false d (not-true _ (w .taken))))
-    (λ w. fresh (a-row k) (test-of k) (a-valid k) (instant l) (l .loop .of) (l .loop .holds) (label s) (label-some s) (label-fits s) (eqb-false _ _ (not-true _ (w .1 .taken))) (l .loop .inv .3 d))
-    (c .if1 .came)
+    let n = few (in-of c) in
+    label-small (A k .period) (A k .distance) (a-row k .cells) (a-sound k) (pos (l .loop .reached .t)) (label c) (simp ints (omega arith)) (simp ints (omega arith)) (label-is c (old k) (holds l))
+    ∴ simp ints (omega arith)
 
--- what is asked of the rows x and y: t is the instant and j the label, as the machine has them
+-- ---- whether it is kept
+
+-- what is asked of the rows x and y: t is the instant and j the label
 abbrev pub Asks : (l : At) → ℤ → ℤ → Row → Row → Type 0
 Asks l t j x y =
     (sound x ≡ true) × ((sound y ≡ true) × (Picking (by (base l)) × (Remembers (by (base l)) x y (l .loop .picked)
-    × (Within (2 ^ 49) t × ((meant x t ≡ some j) × ((l .loop .c ≡ cursorAt x t) × ((l .loop .d ≡ cursorAt y t) × (l .loop .decided ≡ true → t ≡ first (granule x j)))))))))
+    × (Within (2 ^ 49) t × ((meant x t ≡ some j) × ((l .loop .reached .cursor ≡ cursorAt x t) × ((l .loop .b-cursor ≡ cursorAt y t) × (l .loop .fresh ≡ true → t ≡ first (granule x j)))))))))
 
--- what is decided, over the rows as they stood
-decides : (c : tie.After-decided Inv-loop μ-loop) → let k = c .before .before .before .before .before in let l = loop-at k in Decides (by (base l)) (a-row (base l)) (b-row (base l)) (label k) (c .decided .result)
-decides c =
-    let k = c .before .before .before .before .before in
-    let l = loop-at k in
-    stood l (λ x y. Decides (by (base l)) x y (label k) (c .decided .result)) (rw (toZ-ofZ (label-fits k)) at (c .decided .ensures))
+abbrev pub Decided : Type 0
+Decided = tie.After-decided Inv-loop μ-loop
 
--- ---- the granule is decided
+abbrev pub shown : Decided → Shown
+shown c = c .before .before .before .before .before
 
--- what is known of the label's granule then
-abbrev Settled : (c : Shown) → ℕ → Bool → Picked → Type 0
-Settled c of holds picked =
-    let l = loop-at c in
-    let k = base l in Judged (by k) (a-row k) (b-row k) (instant l) of holds × Remembers (by k) (a-row k) (b-row k) picked
+decides : (c : Decided) (x : List ℤ) → Holds (loop-at (shown c)) x → let l = loop-at (shown c) in Decides (by (base l)) (rowOf (A (base l)) x) (rowOf (B (base l)) x) (label (shown c)) (c .decided .result)
+decides c x h =
+    let l = loop-at (shown c) in
+    stood l x h (λ y z. Decides (by (base l)) y z (label (shown c)) (c .decided .result)) (rw (toZ-ofZ (label-fits (shown c))) at (c .decided .ensures))
 
-settled : (c : tie.Joined1-2 Inv-loop μ-loop) → Settled (c .before) (c .if1 .of) (c .if1 .holds) (c .if1 .picked)
-settled c =
-    let s = c .before in
-    let l = loop-at s in
+-- the label that its instants get
+abbrev Labelled : Type 0
+Labelled = tie.After-kept Inv-loop μ-loop
+
+abbrev pub decided-of : Labelled → Decided
+decided-of c = c .before .before
+
+abbrev pub at-label : Labelled → At
+at-label c = loop-at (shown (decided-of c))
+
+abbrev pub given-label : Labelled → Option ℤ
+given-label c = found (c .kept .result)
+
+pub given-is : (c : Labelled) → given-label c ≡ only (label (shown (decided-of c))) (equal (decided-of c .decided .result .holds) (pos 1))
+given-is c =
+    let j = label-fits (shown (decided-of c)) in
+    let h : SFits w64 (decided-of c .decided .result .holds) = sfits-of (c .before .struct-told5 .given .0 .1) in
+    simp plain at (c .kept .ensures)
+
+pub given-result : (c : Labelled) → let l = at-label c in let k = base l in given-label c ≡ result (operationOf (Select (by k)) (a-row k) (b-row k)) (pos (l .loop .reached .t))
+given-result c =
+    let d = decided-of c in
+    let l = at-label c in
     let k = base l in
-    ⊎-elim
-    (λ w.
-    let d = decides record { before = record { before = record { before = record { before = record { before = s; if1 = w .0 }; pool4 = w .1 }; decided-arg = w .2 }; decided-arg2 = w .3 }; decided = w .4 } in
-    let h = w .10 ∙ ap (λ (z : ℤ). eqb (ofZ w64 z) 1) (d .holds) ∙ flag-is _ in
-    (knows-new (a-row k) (test-of k) (a-valid k) (instant l) _ _ (label s) (label-some s) (label-fits s) (w .9) h, rw (w .11) (d .remembers)))
-    (λ w.
-    let q = eqb-true (l .loop .of) (ofZ w64 (label s)) (not-false _ (w .1 .left)) in
-    let h = l .loop .inv .3 (not-false _ (w .0 .left)) in
-    rw (w .3, w .4, w .5) (knows-same (a-row k) (test-of k) (a-valid k) (instant l) _ _ (label s) (label-some s) (label-fits s) q h, l .loop .inv .4))
-    (c .if1 .came)
+    given-is c ∙ decided-label (by k) (A k) (B k) _ _ (old k) _ _ _ _ _ _ (holds l) (inside (in-of (shown d))) (label (shown d)) (label-is (shown d) (old k) (holds l)) (d .decided .result) (decides d (old k) (holds l))
 
--- ---- the label that is written
+-- ---- its instants
 
-abbrev Chooses : (l : At) → Option ℤ → Bool → ℕ → Bool → Picked → Type 0
-Chooses l label decided of holds picked = let k = base l in Chosen (by k) (a-row k) (b-row k) (instant l) label decided of holds picked
+abbrev pub Filled : Type 0
+Filled = tie.After-fill-stretch Inv-loop μ-loop
 
--- where there is a label, and where there is none
-of-label : (c : tie.Joined1-2 Inv-loop μ-loop) → Chooses (loop-at (c .before)) (only (label (c .before)) (c .if1 .holds)) (c .if1 .decided) (c .if1 .of) (c .if1 .holds) (c .if1 .picked)
-of-label c =
-    let s = c .before in
-    let l = loop-at s in
+abbrev pub labelled-of : Filled → Labelled
+labelled-of c = c .before .before .before .before .before
+
+abbrev pub at-filled : Filled → At
+at-filled c = at-label (labelled-of c)
+
+abbrev pub filled-pool : Filled → List ℤ
+filled-pool c = c .fill-stretch .last .1 .1 .1 .1 .1 .0
+
+pub in-range : (c : tie.Else2 Inv-loop μ-loop) → ifLabel (given-label (c .before .before)) inRange ≡ true
+in-range c = sym (c .before .in-limits .ensures) ∙ not-false _ (c .if2 .left)
+
+cell-fits : (y : Option ℤ) → ifLabel y inRange ≡ true → SFits w32 (cellOf y)
+cell-fits none e = sfits-lit tt
+cell-fits (some j) e = range-fits j e
+
+cell-is : (c : Filled) → toZ w32 (ofZ w32 (c .before .before .cell-of .result)) ≡ cellOf (given-label (labelled-of c))
+cell-is c =
+    let e = c .before .before .cell-of .ensures in
+    let r = in-range (c .before .before .before) in
+    toZ-ofZ (rw (sym e) at (cell-fits (given-label (labelled-of c)) r)) ∙ e
+
+stretched : (c : Filled) (x : List ℤ) → Holds (at-filled c) x → let l = at-filled c in let k = base l in
+    Stretched (cellOf (given-label (labelled-of c))) (label (shown (decided-of (labelled-of c)))) (rowOf (A k) x) (entry k .args .at) (entry k .args .period) (l .loop .pool) (l .loop .reached) (c .fill-stretch .result) (filled-pool c)
+stretched c x h =
+    let l = at-filled c in
     let k = base l in
-    let h = settled c in
-    chosen-some (by k) (a-row k) (b-row k) (a-valid k) (instant l) _ _ (label s) (label-some s) _ _ (h .0) (h .1)
+    stood l x h (λ y z. Stretched (cellOf (given-label (labelled-of c))) (label (shown (decided-of (labelled-of c)))) y (entry k .args .at) (entry k .args .period) (l .loop .pool) (l .loop .reached) (c .fill-stretch .result) (filled-pool c))
+    (rw (cell-is c, toZ-ofZ (label-fits (shown (decided-of (labelled-of c))))) at (c .fill-stretch .ensures))
 
-of-none : (c : tie.After-enum-told Inv-loop μ-loop) → let l = c .before .before .before .before .before .before in Chooses l none (l .loop .decided) (l .loop .of) (l .loop .holds) (l .loop .picked)
-of-none c =
-    let s = c .before .before in
-    let l = s .before .before .before .before in
+-- what holds behind them, with the next cursor in b
+pub filled : (c : Filled) (x : List ℤ) → Holds (at-filled c) x → (next : Cursor) → let l = at-filled c in let k = base l in next ≡ cursorAt (rowOf (B k) x) (pos (c .fill-stretch .result .t))
+    → Selecting (by k) (A k) (B k) (entry k .args .at) (entry k .args .period) x (filled-pool c) (c .fill-stretch .result) next true (decided-of (labelled-of c) .decided .result .picked) (isSome (given-label (labelled-of c)) || l .loop .labelled)
+filled c x h next e =
+    let l = at-filled c in
     let k = base l in
-    chosen-none (by k) (a-row k) (b-row k) (a-valid k) (instant l) _ _ _ _ (label-is s ∙ ap found (c .enum-told .given .1)) (l .loop .inv .3) (l .loop .inv .4)
+    let y = labelled-of c in
+    let d = decided-of y in
+    selecting-next (by k) (A k) (B k) _ _ x _ _ _ _ _ _ h (inside (in-of (shown d))) (label (shown d)) (label-is (shown d) x h) (d .decided .result) (decides d x h)
+    (valid (A k .period) (A k .distance) (rowOf (A k) x .cells) (rows-sound l x h .0)) _ _ (given-label y) (given-is y) (in-range (c .before .before .before)) (stretched c x h) next e
 
-pub chosen : (c : tie.At-match-came Inv-loop μ-loop) → let l = c .before .before .before .before .before in
-    Chooses l (found (c .match .kept)) (c .match .decided) (c .match .of) (c .match .holds) (c .match .picked)
-chosen c =
-    ⊎-elim
-    (λ w.
-    let s : Shown = record { before = record { before = record { before = c .before; match = w .0 }; label = w .1 }; known-told = w .2 } in
-    chosen-as (ap found (w .9) ∙ ap (only (label s)) (sym (w .4 .taken))) (w .5) (w .6) (w .7) (w .8) (of-label record { before = s; if1 = w .3 }))
-    (⊎-elim
-    (λ w.
-    let s : Shown = record { before = record { before = record { before = c .before; match = w .0 }; label = w .1 }; known-told = w .2 } in
-    chosen-as (ap found (w .9) ∙ ap (only (label s)) (sym (w .4 .left))) (w .5) (w .6) (w .7) (w .8) (of-label record { before = s; if1 = w .3 }))
-    (λ w. chosen-as (ap found (w .6)) (w .2) (w .3) (w .4) (w .5) (of-none record { before = record { before = c .before; match = w .0 }; enum-told = w .1 })))
-    (c .match .came)
-
--- ---- the next instant
-
--- the place behind the cell that is written, and those before it
-abbrev Written : Type 0
-Written = tie.After-any Inv-loop μ-loop
-
-abbrev pub met : Written → tie.At-match-came Inv-loop μ-loop
-met c = c .before .before .before .before .before
-
-abbrev pub in-of : Written → In
-in-of c = met c .before .before .before .before
-
-abbrev pub at-of : Written → At
-at-of c = in-of c .before
-
-abbrev pub stored : Written → List ℤ
-stored c = c .before .before .before .store .last .1 .1 .0
-
--- what holds once the cell is written
-pub turned : (c : Written) → let l = at-of c in let k = base l in let s = entry k in Turn (Select (by k)) (A k) (B k) (s .args .at) (s .args .period) (old k) (stored c) (c .any .result) (l .loop .t + 1)
-turned c =
-    let n = c .before .before .before in
-    let i = in-of c in
-    let r = not-false _ (c .before .if4 .left) in
-    turn-more _ _ _ _ _ _ _ _ _ (turn-of (i .before)) (i .loop-test .taken) (found (met c .match .kept)) (chosen (met c) .is-label) _ _ (sym (n .store .ensures .0) ∙ r) (n .store .ensures .1 .1 r) (c .any .ensures)
-
-pub same-stored : (c : Written) → length (stored c) ≡ length (old (base (at-of c)))
-same-stored c = turn-length _ _ _ _ _ _ _ _ _ (turned c)
-
-pub kept-stored : (c : Written) (P : Row → Row → Type 0) → let k = base (at-of c) in P (a-row k) (b-row k) → P (rowOf (A k) (stored c)) (rowOf (B k) (stored c))
-kept-stored c P p = rows-kept _ _ _ _ _ _ _ _ _ (turned c) P p
-
-stood-stored : (c : Written) (P : Row → Row → Type 0) → let k = base (at-of c) in P (rowOf (A k) (stored c)) (rowOf (B k) (stored c)) → P (a-row k) (b-row k)
-stood-stored c P p = rows-stood _ _ _ _ _ _ _ _ _ (turned c) P p
-
-pub a-next : (c : tie.After-cursor-next Inv-loop μ-loop) → let l = at-of (c .before .before .before) in c .cursor-next .result ≡ cursorAt (a-row (base l)) (instant l +ℤ pos 1)
-a-next c =
-    let m = c .before .before .before in
-    let l = at-of m in
-    stood-stored m (λ x y. c .cursor-next .result ≡ cursorAt x (instant l +ℤ pos 1))
-    (c .cursor-next .ensures (instant l) (kept-stored m (λ x y. l .loop .c ≡ cursorAt x (instant l)) (l .loop .inv .1)))
-
-pub b-next : (c : tie.After-cursor-next2 Inv-loop μ-loop) → let l = at-of (c .before .before .before .before .before .before) in c .cursor-next2 .result ≡ cursorAt (b-row (base l)) (instant l +ℤ pos 1)
-b-next c =
-    let m = c .before .before .before .before .before .before in
-    let l = at-of m in
-    stood-stored m (λ x y. c .cursor-next2 .result ≡ cursorAt y (instant l +ℤ pos 1))
-    (c .cursor-next2 .ensures (instant l) (kept-stored m (λ x y. l .loop .d ≡ cursorAt y (instant l)) (l .loop .inv .2)))
+pub goes-on : (c : Filled) → at-filled c .loop .reached .t < c .fill-stretch .result .t
+goes-on c =
+    let l = at-filled c in
+    let k = base l in
+    let y = labelled-of c in
+    let d = decided-of y in
+    granule-on (by k) (A k) (B k) _ _ (old k) _ _ _ _ _ _ (holds l) (inside (in-of (shown d))) (label (shown d)) (label-is (shown d) (old k) (holds l)) (d .decided .result) (decides d (old k) (holds l))
+    (valid (A k .period) (A k .distance) (a-row k .cells) (a-sound k)) _ _ (given-label y) (given-is y) (in-range (c .before .before .before)) (stretched c (old k) (holds l))

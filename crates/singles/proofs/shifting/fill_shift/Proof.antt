@@ -3,8 +3,7 @@
 use borrow.Author.Needs.{sfits-of}
 use borrow.Author.Tests.{not-true, not-false}
 use mathlib.Core.Path.{_≡_, refl, sym, _∙_, ap}
-use mathlib.Core.Logic.{⊎-elim}
-use mathlib.Core.Bool.{Bool, true, false, not, _||_}
+use mathlib.Core.Logic.{inl, inr, ⊎-elim}
 use mathlib.Core.List.{List}
 use Prim.Native.Nat.{ℕ, _+_, _-_, _≤_, _<_}
 use native.Mathlib.Omega.{arith}
@@ -15,16 +14,13 @@ use mir.Syntax.{w32, w64}
 use mir.Val.{SFits, toZ, ofZ}
 use Rattle.integers.proofs.Linear.{ints, _∴_}
 use Rattle.calendar.specs.Meaning.{labelOf, raise}
-use Rattle.calendar.specs.Lists.{ifLabel}
-use Rattle.calendar.specs.Checks.{inRange}
 use Rattle.calendar.specs.Operation.Unary.{shift}
 use Rattle.calendar.specs.Operation.Operation.{unary}
 use Rattle.operands.specs.declared.Operand.{Operand}
 use Rattle.operands.specs.Stands.{rowIn}
-use Rattle.rows.proofs.Numbers.{read-as}
 use Rattle.filling.specs.declared.Filled.{Filled}
 use Rattle.filling.proofs.Turns.{Fills}
-use Rattle.singles.proofs.Shifts.{Shifts, Shifted, shift-period, shifted-none, shifted-length, shifted-index, shifted-bound, shifted-more, shifted-out, shifted-done}
+use Rattle.singles.proofs.Shifts.{Shifts, Shifted, Counts, shift-period, shifted-none, shifted-length, shifted-index, shifted-bound, shifted-more, shifted-out, shifted-done}
 use Rattle.singles.proofs.shifting.fill_shift.Statement.{statement}
 use Rattle.singles.proofs.shifting.fill_shift.Tie as tie
 
@@ -108,6 +104,12 @@ slice-set-from-cell c = index (c .before .before) .1 .0
 is-outside-requires : tie.Need-is-outside-requires Inv-loop μ-loop
 is-outside-requires c κs = tt
 
+add-outside : tie.Need-add-outside Inv-loop μ-loop
+add-outside c =
+    let i = c .before .before .before .before in
+    let h = index i in
+    omega (arith, turn (i .before) .counted)
+
 add-t : tie.Need-add-t Inv-loop μ-loop
 add-t c = let h = index (c .before .before .before .before) in omega arith
 
@@ -126,11 +128,10 @@ written-is c =
     ∙ ap (λ (y : ℤ). raise y (labelOf (toZ w32 (ofZ w32 (cell (c .before)))))) (by-is s)
     ∙ ap (λ (y : ℤ). raise (X s) (labelOf y)) (toZ-ofZ (cell-fits (c .before)))
 
-outside-is : (c : tie.Joined1 Inv-loop μ-loop) → c .if1 .outside ≡ not (ifLabel (labelOf (written (c .before .before))) inRange) || c .before .before .before .before .before .loop .outside
-outside-is c =
-    let before = c .before .before .before .before .before .loop .outside in
+counts : (c : tie.Joined1 Inv-loop μ-loop) → Counts (written (c .before .before)) (c .before .before .before .before .before .loop .outside) (c .if1 .outside)
+counts c =
     let e = sym (c .before .is-outside .ensures) in
-    ⊎-elim (λ w. w .1 ∙ sym (ap (λ (b : Bool). b || before) (e ∙ w .0 .taken))) (λ w. w .1 ∙ sym (ap (λ (b : Bool). b || before) (e ∙ w .0 .left))) (c .if1 .came)
+    ⊎-elim (λ w. inl (not-true _ (e ∙ w .0 .taken), w .1)) (λ w. inr (not-false _ (e ∙ w .0 .left), w .1)) (c .if1 .came)
 
 loop-again : tie.Need-loop-again Inv-loop μ-loop
 loop-again c = λ a e s.
@@ -138,7 +139,7 @@ loop-again c = λ a e s.
     let i = z .before .before in
     let l = i .before in
     let read = ap (λ (n : ℕ). raise (X (l .before)) (labelOf (getD (l .loop .pool) (n + l .loop .t) (pos 0)))) (sym e) in
-    shifted-more s (l .loop .inv a e s) (i .loop-test .taken) (written z) _ (written-is z ∙ read) (outside-is c)
+    shifted-more s (l .loop .inv a e s) (i .loop-test .taken) (written z) _ (written-is z ∙ read) (counts c)
 
 -- ---- the end
 
@@ -179,6 +180,7 @@ fill-shift-spec =
     mul-cell
     slice-set-from-cell
     is-outside-requires
+    add-outside
     add-t
     loop-less
     loop-again
