@@ -1,7 +1,7 @@
 -- The laws that the loop of alter rests on.
 --     Repeated     n and D of document 01
---     Scans        a scan of the fine granules
---     Loops        the turns of the loop
+--     Scans        what is found at an instant
+--     Loops        what holds between two stretches
 pub mod Repeated
 pub mod Scans
 pub mod Loops

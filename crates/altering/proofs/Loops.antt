@@ -1,42 +1,47 @@
--- The turns of the loop of alter: what holds before the instant t, behind it, and at the end.
+-- The loop of alter: what holds between two stretches, behind the next one, and at the end.
 -- Assumes nothing.
 use mathlib.Core.Path.{_≡_, refl, sym, _∙_, ap}
-use mathlib.Core.Option.{some}
+use mathlib.Core.Option.{none, some}
 use mathlib.Core.Bool.{Bool, true, false, cond}
 use mathlib.Core.List.{List}
 use Prim.Native.Nat.{ℕ, _+_, _≤_, _<_}
 use native.Mathlib.Omega.{arith}
 use lib.IntN.{ℤ, pos}
-use lib.ListN.{length, set, getD, take, drop}
+use lib.ListN.{length, getD, take, drop}
 use lib.Seq.{getD-take, getD-drop}
-use Rattle.calendar.specs.Meaning.{Row, meant, raise, labelOf, empty}
-use Rattle.calendar.specs.Checks.{unlabelled, labelsInRange}
+use Rattle.integers.proofs.Linear.{ints}
+use Rattle.calendar.specs.Meaning.{Row, meant, empty}
+use Rattle.calendar.specs.Compute.{result}
+use Rattle.calendar.specs.Checks.{unlabelled, labelsInRange, inRange}
 use Rattle.granules.proofs.Tests.{true≢false, false-iff}
 use Rattle.algebra.proofs.Right.{right}
 use Rattle.algebra.proofs.Working.{unlabelled-iff}
-use Rattle.rows.specs.Found.{Sound}
 use Rattle.rows.proofs.Cells.{getD-any}
 use Rattle.alterations.specs.declared.Alteration.{Alteration}
 use Rattle.alterations.specs.declared.Repeat.{Repeat}
+use Rattle.alterations.specs.declared.Altered.{Altered}
 use Rattle.alterations.specs.declared.ahead.Walk.{Walk}
 use Rattle.alterations.specs.declared.behind.Place.{Place}
 use Rattle.alterations.specs.Given.{altering, Alterable, Written}
+use Rattle.alterations.specs.Follows.{Follows}
 use Rattle.alterations.proofs.Tiled.{altered-iff, holds-some}
+use Rattle.alterations.proofs.Followed.{follows-later}
 use Rattle.operands.specs.declared.Kind.the-variants.{Alter}
 use Rattle.filling.specs.declared.Filled.{Filled}
 use Rattle.filling.specs.declared.Filled.the-variants.{Labelled, Unlabelled, OutOfRange}
-use Rattle.filling.specs.declared.Known.{Known}
-use Rattle.filling.proofs.Turns.{Lent, rowOf, Turn, Fills, turn-length, a-kept, turn-written, turn-more, turn-done, rows-stood}
-use Rattle.filling.proofs.Cursors.{Cell, cellsOf, label-of-cell}
-use Rattle.altering.proofs.Scans.{Scan, Labels, label-of, scan-later}
+use Rattle.filling.proofs.Turns.{Lent, rowOf, Turn, Fills, turn-written, turn-done, rows-stood}
+use Rattle.stretches.specs.declared.Reached.{Reached}
+use Rattle.stretches.specs.Stretch.{Stretched, Led}
+use Rattle.stretches.proofs.Turns.{stretch-on}
+use Rattle.stretches.proofs.Stages.{Stage, stage-led, stage-next}
+use Rattle.altering.proofs.Scans.{Found, both, label-of}
 
--- what holds before the instant t
-pub record Altering (by : Alteration) (repeat : Repeat) (a b : Lent) (at period : ℕ) (old new : List ℤ) (walk : Walk) (behind : Place) (known : Known) (i : ℕ) (rise : ℤ) (t : ℕ) : Type 0 where
+-- the working row is filled up to p, and the walk and the place behind are those of p
+pub record Altering (by : Alteration) (repeat : Repeat) (a b : Lent) (at period : ℕ) (old pool : List ℤ) (walk : Walk) (behind : Place) (p : Reached) : Type 0 where
   pub labelled : Bool
-  pub turn : Turn (Alter by) a b at period old new labelled t
+  pub stage : Stage (Alter by) a b (rowOf a old) at period old pool labelled p
   pub alterable : Alterable by repeat (rowOf a old) (rowOf b old)
-  pub reads : Cell a old i rise (pos t)
-  pub scan : Scan by repeat (rowOf a old) (rowOf b old) t walk behind known
+  pub follows : Follows by repeat (rowOf a old) (rowOf b old) (p .t) (record { walk = walk; behind = behind })
 
 -- ---- the end: some instant has a label
 
@@ -60,52 +65,51 @@ filled-labelled true r e false f = absurd (true≢false refl e)
 filled-labelled false true e false f = absurd (true≢false refl (ap is-unlabelled f))
 filled-labelled false false e false f = absurd (true≢false refl (ap is-unlabelled f))
 
-module _ (by : Alteration) (repeat : Repeat) (a b : Lent) (at period : ℕ) (old new : List ℤ) (walk : Walk) (behind : Place) (known : Known) (i : ℕ) (rise : ℤ) (t : ℕ)
-    (h : Altering by repeat a b at period old new walk behind known i rise t) where
-  pub altering-done : period ≤ t → Fills (altering by (rowOf a old) (rowOf b old)) at period old new Labelled
-  altering-done m =
-      let o = altering by (rowOf a old) (rowOf b old) in
-      let d = turn-done (Alter by) a b at period old new (h .labelled) t (h .turn) m in
-      let e = filled-labelled (unlabelled o) (labelsInRange o) (some-labelled by repeat (rowOf a old) (rowOf b old) (h .alterable)) (h .labelled) (d .0) in
-      (ap (λ (x : Bool). cond x Labelled Unlabelled) (sym e) ∙ d .0, d .1)
+module _ (by : Alteration) (repeat : Repeat) (a b : Lent) (at period : ℕ) (old : List ℤ) where
+  -- an instant that has no label in a gets none
+  unlabelled-there : (u : ℕ) → meant (rowOf a old) (pos u) ≡ none → none ≡ result (altering by (rowOf a old) (rowOf b old)) (pos u)
+  unlabelled-there u e = label-of by (rowOf a old) (rowOf b old) (pos u) none e
 
-  -- ---- the instant t
+  -- before the first stretch
+  pub altering-led : (q : Reached) (new : List ℤ) (s : Altered) → Turn (Alter by) a b at period old old false 0 → Led (rowOf a old) at period old q new
+      → Alterable by repeat (rowOf a old) (rowOf b old) → Follows by repeat (rowOf a old) (rowOf b old) 0 s → Altering by repeat a b at period old new (s .walk) (s .behind) q
+  altering-led q new s h x g f = record {
+    labelled = false;
+    stage = stage-led (Alter by) a b at period old (rowOf a old) unlabelled-there q new h x;
+    alterable = g;
+    follows = follows-later by repeat (rowOf a old) (rowOf b old) 0 (q .t) s (omega arith) f;
+  }
 
-  -- the rows are sound
-  pub sound-old : Sound (a .period) (a .distance) (cellsOf a old)
-  sound-old = h .turn .lends .is-given .sounds .0
+  module _ (new : List ℤ) (walk : Walk) (behind : Place) (p : Reached) (h : Altering by repeat a b at period old new walk behind p) where
+    pub altering-done : period ≤ p .t → Fills (altering by (rowOf a old) (rowOf b old)) at period old new Labelled
+    altering-done m =
+        let o = altering by (rowOf a old) (rowOf b old) in
+        let d = turn-done (Alter by) a b at period old new (h .labelled) (p .t) (h .stage .turn) m in
+        let e = filled-labelled (unlabelled o) (labelsInRange o) (some-labelled by repeat (rowOf a old) (rowOf b old) (h .alterable)) (h .labelled) (d .0) in
+        (ap (λ (x : Bool). cond x Labelled Unlabelled) (sym e) ∙ d .0, d .1)
 
-  end-old : a .end ≤ length old
-  end-old = omega (arith, h .turn .lends .a-end, h .turn .lends .room)
+    module _ (m : p .t < period) where
+      -- the labels of the instants before
+      pub written-old : Written by (rowOf a old) (rowOf b old) (take (p .t) (drop at new)) × (length (take (p .t) (drop at new)) ≡ p .t)
+      written-old =
+          let w = turn-written (Alter by) a b at period old new (h .labelled) (p .t) (h .stage .turn) m in
+          (rows-stood (Alter by) a b at period old new (h .labelled) (p .t) (h .stage .turn) (λ x y. Written by x y (take (p .t) (drop at new))) (record { at-most = w .0 .at-most; labels = w .0 .labels }), w .1)
 
-  pub end-new : a .end ≤ length new
-  end-new = omega (arith, end-old, turn-length (Alter by) a b at period old new (h .labelled) t (h .turn))
+      -- one of them, as a cell of the pool
+      pub written-cell : (u : ℕ) (d : ℤ) → u < p .t → at + u < length new → getD (take (p .t) (drop at new)) u empty ≡ getD new (at + u) d
+      written-cell u d l k = getD-take (p .t) (drop at new) u empty l ∙ getD-drop at new u empty ∙ getD-any new (at + u) empty d k
 
-  -- the cell that is read
-  pub cell-label : (d : ℤ) → meant (rowOf a old) (pos t) ≡ raise rise (labelOf (getD new i d))
-  cell-label d =
-      let k = a-kept (Alter by) a b at period old new (h .labelled) t (h .turn) in
-      label-of-cell a old sound-old end-old i rise (pos t) (h .reads) new end-new k d
+      -- behind the stretch of the number that is found
+      module _ (j : ℤ) (e : meant (rowOf a old) (pos (p .t)) ≡ some j) (w : Walk) (q : Place) (n z : ℤ) (f : Found by repeat (rowOf a old) (rowOf b old) (p .t) j w q n z)
+          (r : Reached) (pool : List ℤ) (x : Stretched n z (rowOf a old) at period new p r pool) where
+        pub found-on : p .t < r .t
+        found-on = stretch-on n z (rowOf a old) at period new pool p r x j e (f .reaches) m
 
-  module _ (m : t < period) where
-    -- the labels of the instants before
-    pub written-old : Written by (rowOf a old) (rowOf b old) (take t (drop at new)) × (length (take t (drop at new)) ≡ t)
-    written-old =
-        let w = turn-written (Alter by) a b at period old new (h .labelled) t (h .turn) m in
-        (rows-stood (Alter by) a b at period old new (h .labelled) t (h .turn) (λ x y. Written by x y (take t (drop at new))) (record { at-most = w .0 .at-most; labels = w .0 .labels }), w .1)
-
-    -- one of them, as a cell of the pool
-    pub written-cell : (u : ℕ) (d : ℤ) → u < t → at + u < length new → getD (take t (drop at new)) u empty ≡ getD new (at + u) d
-    written-cell u d l k = getD-take t (drop at new) u empty l ∙ getD-drop at new u empty ∙ getD-any new (at + u) empty d k
-
-    -- the label is written, and the cell of the next instant comes
-    module _ (w : Walk) (p : Place) (k : Known) (cell : ℤ) (l : Labels by repeat (rowOf a old) (rowOf b old) t w p k cell) where
-      pub altering-more : (pool : List ℤ) (i′ : ℕ) (rise′ : ℤ) → pool ≡ set new (at + t) cell → Cell a old i′ rise′ (pos (t + 1))
-          → Altering by repeat a b at period old pool w p k i′ rise′ (t + 1)
-      altering-more pool i′ rise′ e r = record {
-        labelled = _;
-        turn = turn-more (Alter by) a b at period old new (h .labelled) t (h .turn) m (l .label) (l .is-label) pool _ (l .in-range) (e ∙ ap (set new (at + t)) (l .is-cell)) refl;
-        alterable = h .alterable;
-        reads = r;
-        scan = scan-later by repeat (rowOf a old) (rowOf b old) t w p k (l .scan);
-      }
+        pub altering-next : inRange n ≡ true → Altering by repeat a b at period old pool w q r
+        altering-next i = record {
+          labelled = _;
+          stage = stage-next (Alter by) a b at period old (rowOf a old) unlabelled-there new (h .labelled) p (h .stage) m (some n) i z r pool x found-on
+              (λ u l c d g. sym (f .numbers l (h .alterable .ready .valid .0 .ordered (pos (p .t)) (pos u) j l (simp ints (omega arith)) e g) (x .below u l c d g)) ∙ label-of by (rowOf a old) (rowOf b old) (pos u) (some l) g);
+          alterable = h .alterable;
+          follows = follows-later by repeat (rowOf a old) (rowOf b old) (p .t) (r .t) (both w q) (x .on) (f .follows);
+        }

@@ -22,11 +22,11 @@ use alterations::Alteration;
 use alterations::Repeat;
 use calendar::Calendar;
 use filling::Filled;
-use filling::Known;
-use filling::covers;
 use filling::end_of;
 use operands::Operand;
 use sizes::Turn;
+use stretches::fill_leading;
+use stretches::fill_stretch;
 
 // Document 01's n and D.
 fn repeat_of(
@@ -104,65 +104,51 @@ pub fn fill_alter(
     );
     let mut walk = altered.walk;
     let mut behind = altered.behind;
-    let mut known = Known {
-        number: 0,
-        low: 1,
-        high: 0,
-    };
-    let mut i = a_start;
-    let mut rise: i64 = 0;
-    let mut t = 0;
-    while t < period {
-        let cell = pool[i];
-        let mut label = Calendar::EMPTY;
-        if cell != Calendar::EMPTY {
-            let j = cell as i64 + rise;
-            if !covers(known, j) {
-                if j < walk.end {
-                    walk = alterations::ahead::advance_to(
-                        by,
-                        walk,
-                        j,
-                        &pool[a_start..a_end],
-                        a_period,
-                        a_distance,
-                        &pool[b_start..b_end],
-                        b_period,
-                        b_distance,
-                    );
-                    known = Known {
-                        number: walk.label,
-                        low: j,
-                        high: walk.next - 1,
-                    };
-                } else {
-                    behind = alterations::behind::seek(
-                        behind,
-                        j - repeat.fine,
-                        &pool[a_start..a_end],
-                        a_period,
-                        a_distance,
-                    );
-                    let back = at + behind.index;
-                    known = Known {
-                        number: pool[back] as i64 + repeat.coarse,
-                        low: j,
-                        high: j,
-                    };
-                }
-                if !Calendar::in_range(known.number) {
-                    return Filled::OutOfRange;
-                }
-            }
-            label = known.number as i32;
+    let mut reached = fill_leading(at, period, &mut *pool, a_start, a_end, a_period, a_distance);
+    while reached.t < period {
+        let j = rows::label_of(&pool[a_start..a_end], a_period, a_distance, reached.cursor);
+        let mut number = walk.label;
+        let mut high = j;
+        if j < walk.end {
+            walk = alterations::ahead::advance_to(
+                by,
+                walk,
+                j,
+                &pool[a_start..a_end],
+                a_period,
+                a_distance,
+                &pool[b_start..b_end],
+                b_period,
+                b_distance,
+            );
+            number = walk.label;
+            high = walk.next - 1;
+        } else {
+            behind = alterations::behind::seek(
+                behind,
+                j - repeat.fine,
+                &pool[a_start..a_end],
+                a_period,
+                a_distance,
+            );
+            let back = at + behind.index;
+            number = pool[back] as i64 + repeat.coarse;
         }
-        pool[at + t] = label;
-        i += 1;
-        if i == a_end {
-            i = a_start;
-            rise += a_distance;
+        if !Calendar::in_range(number) {
+            return Filled::OutOfRange;
         }
-        t += 1;
+        reached = fill_stretch(
+            number as i32,
+            high,
+            reached,
+            at,
+            period,
+            &mut *pool,
+            a_start,
+            a_end,
+            a_period,
+            a_distance,
+        );
     }
     Filled::Labelled
 }

@@ -27,9 +27,6 @@ pub record Cell (a : Lent) (pool : List ℤ) (i : ℕ) (z u : ℤ) : Type 0 wher
   pub high : i < a .end
   pub is : _≡_ {A = Cursor} (record { index = pos (i - a .start); rise = z }) (cursorAt (rowOf a pool) u)
 
-pub cell-as : {a : Lent} {pool : List ℤ} {i k : ℕ} {z y u : ℤ} → k ≡ i → y ≡ z → Cell a pool i z u → Cell a pool k y u
-cell-as e f c = rw (e, f) c
-
 module _ (a : Lent) (pool : List ℤ) (s : Sound (a .period) (a .distance) (cellsOf a pool)) (in-pool : a .end ≤ length pool) where
   abbrev row : Row
   row = rowOf a pool
@@ -58,7 +55,7 @@ module _ (a : Lent) (pool : List ℤ) (s : Sound (a .period) (a .distance) (cell
     pub cell-bounds : Near u → Bounds (a .period) (a .distance) (record { index = pos (i - a .start); rise = z })
     cell-bounds near = bounds (a .period) (a .distance) (row .cells) s _ (u, near, c .is)
 
-    -- the cell n instants on in the same turn, the same cell in the next turn, and the first one of the next turn behind the last
+    -- the cell n instants on in the same turn, and the same cell in the next turn
     pub cell-on : (n : ℕ) → i + n < a .end → Cell a pool (i + n) z (u +ℤ pos n)
     cell-on n h = record {
       low = omega (arith, c .low);
@@ -73,14 +70,6 @@ module _ (a : Lent) (pool : List ℤ) (s : Sound (a .period) (a .distance) (cell
       high = c .high;
       is = cursor-moved (a .period) (a .distance) (row .cells) s _ u (pos (a .end - a .start)) (pos 1) _ _ (c .is)
           (period-is ∴ simp ints (omega arith)) (simp ints (omega arith)) (simp ints (omega arith)) (period-is ∴ c .low ∴ c .high ∴ simp ints (omega arith));
-    }
-
-    pub cell-turn : i + 1 ≡ a .end → Cell a pool (a .start) (z +ℤ a .distance) (u +ℤ pos 1)
-    cell-turn h = record {
-      low = omega arith;
-      high = some-cell;
-      is = cursor-moved (a .period) (a .distance) (row .cells) s _ u (pos 1) (pos 1) _ _ (c .is)
-          (period-is ∴ c .low ∴ h ∴ simp ints (omega arith)) (simp ints (omega arith)) (simp ints (omega arith)) (period-is ∴ some-cell ∴ simp ints (omega arith));
     }
 
     -- the label of the instant, by the cell of a pool in which the row stands as well

@@ -7,8 +7,6 @@
 --     Steps        the step of a loop over two operands
 --     Cursors      the cursor of an instant, as a loop over a pool holds it
 --     Lasts        the last label up to an instant
---     Fresh        where a label's granule begins
---     Decided      the granule that a loop decided last
 --     Before       a walk back to the last label before the instant 0
 pub mod Points
 pub mod Single
@@ -18,6 +16,4 @@ pub mod Turns
 pub mod Steps
 pub mod Cursors
 pub mod Lasts
-pub mod Fresh
-pub mod Decided
 pub mod Before

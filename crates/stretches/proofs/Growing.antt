@@ -3,23 +3,21 @@
 use mathlib.Core.Path.{_≡_, refl, sym, _∙_, ap, ap₂}
 use mathlib.Core.Logic.{_⊎_, inl, inr, ⊎-map}
 use mathlib.Core.Option.{Option, none, some}
-use mathlib.Core.Bool.{true, false}
 use mathlib.Core.List.{List, _++_}
 use Prim.Native.Nat.{ℕ, zero, suc, _+_, _-_, _≤_, _<_}
 use native.Mathlib.Omega.{arith}
 use lib.IntN.{ℤ, pos, _+ℤ_}
-use lib.Signed.{_≤ℤ_, _<ℤ_}
+use lib.Signed.{_≤ℤ_}
 use lib.ListN.{length, set, take, drop, length-set, take-append-drop}
 use lib.Seq.{take-set-le}
 use Rattle.integers.proofs.Linear.{ints}
-use Rattle.integers.proofs.Machine.{test-lt, test-not-lt}
 use Rattle.calendar.specs.Meaning.{Row, meant, empty}
 use Rattle.granules.proofs.Tests.{ltb-iff, decided}
 use Rattle.rows.specs.declared.Cursor.{Cursor}
 use Rattle.rows.specs.Cursor.{cursorAt}
 use Rattle.filling.proofs.Cells.{part-kept}
 use Rattle.stretches.specs.declared.Reached.{Reached}
-use Rattle.stretches.specs.Stretch.{isAbove, cellWhere, stretched, Stretched, Led}
+use Rattle.stretches.specs.Stretch.{cellWhere, stretched, Stretched, Led}
 
 -- ---- the cells
 
@@ -40,15 +38,6 @@ module _ (c : ℤ) (r : Row) (at t : ℕ) (pool : List ℤ) where
       ∙ part-kept pool (drop at new) at s e h f g
 
 -- ---- the loop
-
--- a label that is not above h, and one that is
-pub not-above : (h l : ℤ) (x : Option ℤ) → isAbove h x ≡ false → x ≡ some l → l ≤ℤ h
-not-above h l none e f = let z : _≡_ {A = ℕ} 0 1 = cc in absurd (omega arith)
-not-above h l (some j) e f = let q : j ≡ l = cc in rw q at (test-not-lt h j .0 e)
-
-pub above : (h : ℤ) (x : Option ℤ) → isAbove h x ≡ true → (l : ℤ) × (x ≡ some l) × (h <ℤ l)
-above h none e = let z : _≡_ {A = ℕ} 0 1 = cc in absurd (omega arith)
-above h (some j) e = (j, refl, test-lt h j .0 e)
 
 -- the cells of the instants from t₀ up to t are written
 pub record Grown (c h : ℤ) (r : Row) (at size t₀ : ℕ) (old new : List ℤ) (cursor : Cursor) (t : ℕ) : Type 0 where
@@ -77,7 +66,7 @@ module _ (c h : ℤ) (r : Row) (at size t₀ : ℕ) (old : List ℤ) where
     grown-kept s e i f k = ap (λ (l : List ℤ). take (e - s) (drop s l)) (g .cells) ∙ stretched-kept c r at t₀ old (t - t₀) s e i f k
 
     -- one instant more, with the label x
-    pub grown-more : (x : Option ℤ) (next : Cursor) (cell : ℤ) → t < size → meant r (pos t) ≡ x → isAbove h x ≡ false → cell ≡ cellWhere c x → next ≡ cursorAt r (pos t +ℤ pos 1)
+    pub grown-more : (x : Option ℤ) (next : Cursor) (cell : ℤ) → t < size → meant r (pos t) ≡ x → ((l : ℤ) → x ≡ some l → l ≤ℤ h) → cell ≡ cellWhere c x → next ≡ cursorAt r (pos t +ℤ pos 1)
         → Grown c h r at size t₀ old (set new (at + t) cell) next (t + 1)
     grown-more x next cell m e b q k = record {
       on = omega (arith, g .on);
@@ -94,7 +83,7 @@ module _ (c h : ℤ) (r : Row) (at size t₀ : ℕ) (old : List ℤ) where
       where
         by : (u : ℕ) (l : ℤ) → t₀ ≤ u → meant r (pos u) ≡ some l → (u < t) ⊎ (u ≡ t) → l ≤ℤ h
         by u l i f (inl j) = g .below u l i j f
-        by u l i f (inr j) = not-above h l x b (sym e ∙ ap (λ (v : ℕ). meant r (pos v)) (sym j) ∙ f)
+        by u l i f (inr j) = b l (sym e ∙ ap (λ (v : ℕ). meant r (pos v)) (sym j) ∙ f)
 
 -- a stretch from the instant 0 on, in a row with no label up to h, has none
 pub leads : {h : ℤ} {r : Row} {at size : ℕ} {pool new : List ℤ} {p q : Reached} → Stretched empty h r at size pool p q new → p .t ≡ 0

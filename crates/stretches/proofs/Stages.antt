@@ -4,10 +4,12 @@ use mathlib.Core.Path.{_≡_, sym, subst}
 use mathlib.Core.Option.{Option, none, some}
 use mathlib.Core.Bool.{Bool, true, false, _||_}
 use mathlib.Core.List.{List}
-use Prim.Native.Nat.{ℕ, _+_, _≤_, _<_}
+use Prim.Native.Nat.{ℕ, _≤_, _<_}
 use native.Mathlib.Omega.{arith}
 use lib.IntN.{ℤ, pos}
-use lib.ListN.{length}
+use mir.Facts.{sfits-lit}
+use mir.Syntax.{w32}
+use mir.Val.{SFits}
 use Rattle.calendar.specs.Meaning.{Row, meant}
 use Rattle.calendar.specs.Operation.{Operation}
 use Rattle.calendar.specs.Lists.{isSome, ifLabel}
@@ -15,10 +17,16 @@ use Rattle.calendar.specs.Compute.{result, cellOf}
 use Rattle.calendar.specs.Checks.{inRange, sound}
 use Rattle.operands.specs.declared.Kind.{Kind}
 use Rattle.operands.specs.Operations.{operationOf}
+use Rattle.filling.proofs.Working.{range-fits}
 use Rattle.filling.proofs.Turns.{Lent, Turn, rowOf, turn-length, a-kept, b-kept}
 use Rattle.stretches.specs.declared.Reached.{Reached}
 use Rattle.stretches.specs.Stretch.{Room, Follows, Stretched, Led}
 use Rattle.stretches.proofs.Turns.{turn-led, turn-stretched}
+
+-- a label within the limits fits a cell
+pub cell-fits : (y : Option ℤ) → ifLabel y inRange ≡ true → SFits w32 (cellOf y)
+cell-fits none e = sfits-lit tt
+cell-fits (some j) e = range-fits j e
 
 -- the working row is filled up to p, which has a label in r, or is behind them all
 pub record Stage (k : Kind) (a b : Lent) (r : Row) (at period : ℕ) (old pool : List ℤ) (labelled : Bool) (p : Reached) : Type 0 where

@@ -13,7 +13,7 @@ use lib.Signed.{_≤ℤ_, _<ℤ_}
 use Rattle.integers.proofs.Linear.{ints, _∴_}
 use Rattle.integers.specs.Parts.{up}
 use Rattle.integers.proofs.Order.{≤ℤ-antisym, le-or-lt, pos-up}
-use Rattle.calendar.specs.Meaning.{Row, meant, empty}
+use Rattle.calendar.specs.Meaning.{Row, meant}
 use Rattle.calendar.specs.Operation.{Operation}
 use Rattle.calendar.specs.Lists.{isSome, ifLabel, first}
 use Rattle.calendar.specs.Granules.{granule}

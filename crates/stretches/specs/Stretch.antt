@@ -1,11 +1,10 @@
 -- A stretch of a working row: what it is given, and what it leaves.
 use mathlib.Core.Path.{_≡_}
 use mathlib.Core.Option.{Option, none, some}
-use mathlib.Core.Bool.{Bool, false}
 use mathlib.Core.List.{List}
 use Prim.Native.Nat.{ℕ, zero, suc, _+_, _-_, _≤_, _<_}
 use lib.IntN.{ℤ, pos}
-use lib.Signed.{_≤ℤ_, _<ℤ_, ltZ}
+use lib.Signed.{_≤ℤ_, _<ℤ_}
 use lib.ListN.{length, set, take, drop}
 use Rattle.calendar.specs.Meaning.{Row, meant, empty}
 use Rattle.calendar.specs.Checks.{poolLimit}
@@ -13,11 +12,6 @@ use Rattle.calendar.specs.Questions.{given}
 use Rattle.rows.specs.Found.{Sound}
 use Rattle.rows.specs.Cursor.{cursorAt}
 use Rattle.stretches.specs.declared.Reached.{Reached}
-
--- there is a label above h
-abbrev pub isAbove : ℤ → Option ℤ → Bool
-isAbove h none = false
-isAbove h (some j) = ltZ h j
 
 -- the cell of an instant with that label: c, or empty where there is none
 abbrev pub cellWhere : ℤ → Option ℤ → ℤ

@@ -6,7 +6,7 @@ ghost use Rattle.calendar.specs.Lists.{ifLabel};
 ghost use Rattle.calendar.specs.Compute.{cellOf};
 ghost use Rattle.calendar.specs.Checks.{inRange};
 ghost use Rattle.rows.specs.Found.{found};
-ghost use Rattle.stretches.specs.Stretch.{isAbove, cellWhere, rowFrom, Room, Follows, Stretched, Led};
+ghost use Rattle.stretches.specs.Stretch.{rowFrom, Room, Follows, Stretched, Led};
 use calendar::Calendar;
 use rows::Cursor;
 use rows::Found;
@@ -18,26 +18,6 @@ const BELOW_LABELS: i64 = -9223372036854775807;
 pub struct Reached {
     pub t: usize,
     pub cursor: Cursor,
-}
-
-// Whether there is a label above `high`.
-fn is_above(label: Found, high: i64) -> bool
-    ensures { λ r. ⌜ r ≡ isAbove high (found label) ⌝ }
-{
-    match label {
-        Found::At(j) => high < j,
-        Found::Nothing => false,
-    }
-}
-
-// The cell of an instant with that label: `cell`, or empty where there is none.
-fn cell_where(cell: i32, label: Found) -> i32
-    ensures { λ r. ⌜ r ≡ cellWhere cell (found label) ⌝ }
-{
-    match label {
-        Found::At(_) => cell,
-        Found::Nothing => Calendar::EMPTY,
-    }
 }
 
 // Whether a label, where there is one, is within the limits.
@@ -83,10 +63,17 @@ pub fn fill_stretch(
     let mut t = from.t;
     while t < size {
         let label = rows::cursor_label(&pool[start..end], period, distance, cursor);
-        if is_above(label, high) {
-            return Reached { t, cursor };
+        let mut written = Calendar::EMPTY;
+        match label {
+            Found::At(j) => {
+                if high < j {
+                    return Reached { t, cursor };
+                }
+                written = cell;
+            }
+            Found::Nothing => {}
         }
-        pool[at + t] = cell_where(cell, label);
+        pool[at + t] = written;
         cursor = rows::cursor_next(&pool[start..end], period, distance, cursor);
         t += 1;
     }

@@ -1,6 +1,6 @@
 -- `selecting::kept` meets its contract.
 -- Assumes nothing.
-use mathlib.Core.Path.{_≡_, refl, sym, _∙_, ap}
+use mathlib.Core.Path.{sym, ap}
 use lib.IntN.{pos}
 use mir.Facts.{sfits-lit}
 use mir.Syntax.{w64}

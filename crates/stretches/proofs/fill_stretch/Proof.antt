@@ -1,28 +1,29 @@
 -- `stretches::fill_stretch` meets its contract: each turn of the loop writes the cell of one instant.
 -- Assumes nothing.
 use borrow.Author.Needs.{needs, sfits-of}
-use borrow.Author.Tests.{not-true, not-false}
-use mathlib.Core.Path.{_≡_, refl, sym, _∙_, ap, subst}
+use mathlib.Core.Path.{_≡_, refl, sym, _∙_, ap}
+use mathlib.Core.Logic.{⊎-elim}
 use mathlib.Core.Option.{Option, none, some}
-use mathlib.Core.Bool.{true, false}
+use mathlib.Core.Bool.{true}
 use mathlib.Core.List.{List}
 use Prim.Native.Nat.{ℕ, _+_, _-_, _≤_, _<_}
 use native.Mathlib.Omega.{arith}
 use lib.IntN.{ℤ, pos, _+ℤ_}
-use lib.ListN.{length, set, take, drop}
-use mir.Facts.{toZ-ofZ, sfits-lit}
+use lib.Signed.{_≤ℤ_}
+use lib.ListN.{length, set}
+use mir.Facts.{toZ-ofZ}
 use mir.Syntax.{w32, w64}
 use mir.Val.{toZ, ofZ, SFits}
-use Rattle.integers.proofs.Linear.{ints, _∴_}
-use Rattle.integers.proofs.Machine.{plain}
+use Rattle.integers.proofs.Linear.{ints}
+use Rattle.integers.proofs.Machine.{plain, test-lt, test-not-lt}
 use Rattle.calendar.specs.Meaning.{Row, meant}
-use Rattle.rows.specs.Found.{found, Near}
+use Rattle.rows.specs.Found.{found}
 use Rattle.calendar.specs.Checks.{sound}
 use Rattle.calendar.specs.Questions.{given}
 use Rattle.rows.specs.declared.Cursor.{Cursor}
 use Rattle.rows.specs.Cursor.{cursorAt, Standing}
-use Rattle.stretches.specs.Stretch.{isAbove, cellWhere, rowFrom, Room, Follows, Stretched}
-use Rattle.stretches.proofs.Growing.{Grown, grown-none, grown-length, grown-kept, grown-more, above}
+use Rattle.stretches.specs.Stretch.{cellWhere, rowFrom, Room, Follows, Stretched}
+use Rattle.stretches.proofs.Growing.{Grown, grown-none, grown-length, grown-kept, grown-more}
 use Rattle.stretches.proofs.fill_stretch.Statement.{statement}
 use Rattle.stretches.proofs.fill_stretch.Tie as tie
 
@@ -145,75 +146,91 @@ label-is c =
     let k = kept (base l) _ _ _ (l .loop .inv) in
     sym ((rw k at (c .cursor-label .ensures)) (pos (l .loop .t)) (l .loop .inv .is-cursor))
 
-is-above-requires : tie.Need-is-above-requires Inv-loop μ-loop
-is-above-requires c κs = tt
+enum-known-label : tie.Need-enum-known-label Inv-loop μ-loop
+enum-known-label c = search needs
 
-tested : (c : tie.After-is-above Inv-loop μ-loop) → let s = base (c .before .before .before .before .before) in c .is-above .result ≡ isAbove (H s) (found (c .before .cursor-label .result))
-tested c = c .is-above .ensures
+enum-told : tie.Need-enum-told Inv-loop μ-loop
+enum-told c = search needs
+
+-- a label j there
+abbrev Shown : Type 0
+Shown = tie.After-known-told Inv-loop μ-loop
+
+abbrev at-shown : Shown → At
+at-shown c = c .before .before .before .before .before .before .before
+
+abbrev label : Shown → ℤ
+label c = c .before .label .given .0 .0
+
+label-fits : (c : Shown) → SFits w64 (label c)
+label-fits c = sfits-of (c .known-told .given .0 .1)
+
+label-some : (c : Shown) → let l = at-shown c in meant (row (base l)) (pos (l .loop .t)) ≡ some (label c)
+label-some c = label-is (c .before .before .before) ∙ ap found (c .before .label .given .1)
 
 same-length : tie.Need-same-length Inv-loop μ-loop
-same-length c = let l = c .before .before .before .before .before .before in same (base l) _ _ _ (l .loop .inv)
+same-length c = let l = at-shown (c .before) in same (base l) _ _ _ (l .loop .inv)
 
 returns : tie.Need-returns Inv-loop μ-loop
 returns c =
-    let a = c .before in
-    let l = a .before .before .before .before .before in
-    let s = base l in
+    let k = c .before in
+    let l = at-shown k in
     let g = l .loop .inv in
-    let y = above (H s) _ (sym (tested a) ∙ c .if1 .taken) in
-    ends s _ _ _ record { follows = record { in-room = g .in-room; cursor = g .is-cursor }; on = g .on; cells = g .cells; below = g .below; stops = λ m. (y .0, label-is (a .before) ∙ y .1, y .2) }
+    let f = label-fits k in
+    let a = test-lt (H (base l)) (label k) .0 (rw (toZ-ofZ f) at (c .if1 .taken)) in
+    ends (base l) _ _ _ record { follows = record { in-room = g .in-room; cursor = g .is-cursor }; on = g .on; cells = g .cells; below = g .below; stops = λ m. (label k, label-some k, a) }
 
 -- ---- the cell that is written
 
-cell-where-requires : tie.Need-cell-where-requires Inv-loop μ-loop
-cell-where-requires c κs = tt
-
 abbrev Set : Type 0
-Set = tie.After-cell-where Inv-loop μ-loop
+Set = tie.At-match-came Inv-loop μ-loop
 
 abbrev in-of : Set → In
-in-of c = c .before .before .before .before .before .before
+in-of c = c .before .before .before .before
 
 abbrev at-of : Set → At
 at-of c = in-of c .before
 
-cell-fits : (z : ℤ) (x : Option ℤ) → SFits w32 z → SFits w32 (cellWhere z x)
-cell-fits z none f = sfits-lit tt
-cell-fits z (some j) f = f
+-- the label of the instant, which is not above the limit, and its cell
+abbrev Cells : (l : At) → ℤ → Type 0
+Cells l z = (x : Option ℤ) × (meant (row (base l)) (pos (l .loop .t)) ≡ x) × ((j : ℤ) → x ≡ some j → j ≤ℤ H (base l)) × (z ≡ cellWhere (C (base l)) x)
 
-read : (c : Set) → toZ w32 (ofZ w32 (c .cell-where .result)) ≡ cellWhere (C (base (at-of c))) (found (c .before .before .before .cursor-label .result))
-read c =
-    let s = base (at-of c) in
-    let f = s .fits .cell in
-    let e = c .cell-where .ensures in
-    let x : SFits w32 (C s) = simp plain f in
-    toZ-ofZ (rw (sym e) at (cell-fits (C s) (found (c .before .before .before .cursor-label .result)) x)) ∙ e
+cells : (c : Set) → Cells (at-of c) (toZ w32 (c .match .written))
+cells c =
+    ⊎-elim
+    (λ w.
+    let k : Shown = record { before = record { before = record { before = c .before; match = w .0 }; label = w .1 }; known-told = w .2 } in
+    let f = label-fits k in
+    let b = test-not-lt (H (base (at-of c))) (label k) .0 (rw (toZ-ofZ f) at (w .3 .left)) in
+    (some (label k), label-some k, λ j e. (let q : label k ≡ j = cc in rw q at b), ap (toZ w32) (w .4)))
+    (λ w. (none, label-is (c .before) ∙ ap found (w .1 .given .1), λ j e. (let z : _≡_ {A = ℕ} 0 1 = cc in absurd (omega arith)), ap (toZ w32) (w .2)))
+    (c .match .came)
 
 -- one instant more
 more : (c : Set) (next : Cursor) → let l = at-of c in let s = base l in next ≡ cursorAt (row s) (pos (l .loop .t) +ℤ pos 1)
-    → Grown (C s) (H s) (row s) (s .args .at) (s .args .size) (s .args .from .t) (old s) (set (l .loop .pool) (s .args .at + l .loop .t) (toZ w32 (ofZ w32 (c .cell-where .result)))) next (l .loop .t + 1)
+    → Grown (C s) (H s) (row s) (s .args .at) (s .args .size) (s .args .from .t) (old s) (set (l .loop .pool) (s .args .at + l .loop .t) (toZ w32 (c .match .written))) next (l .loop .t + 1)
 more c next e =
     let l = at-of c in
     let s = base l in
-    let a = c .before .before in
-    grown-more (C s) (H s) (row s) _ _ _ (old s) _ _ _ (l .loop .inv) (found (a .before .cursor-label .result)) next _ (in-of c .loop-test .taken) (label-is (a .before)) (sym (tested a) ∙ c .before .if1 .left) (read c) e
+    let x = cells c in
+    grown-more (C s) (H s) (row s) _ _ _ (old s) _ _ _ (l .loop .inv) (x .0) next _ (in-of c .loop-test .taken) (x .1) (x .2) (x .3) e
 
 index-of : (c : Set) → let l = at-of c in (base l .args .at + l .loop .t < length (l .loop .pool)) × (length (l .loop .pool) ≤ 1048576)
 index-of c = let l = at-of c in index (base l) _ _ _ (l .loop .inv) (in-of c .loop-test .taken)
 
-add-t15 : tie.Need-add-t15 Inv-loop μ-loop
-add-t15 c = let h = index-of c in omega arith
+add-written : tie.Need-add-written Inv-loop μ-loop
+add-written c = let h = index-of c in omega arith
 
-mul-t17 : tie.Need-mul-t17 Inv-loop μ-loop
-mul-t17 c = let h = index-of c in omega arith
+mul-written : tie.Need-mul-written Inv-loop μ-loop
+mul-written c = let h = index-of c in omega arith
 
-slice-set-from-pool : tie.Need-slice-set-from-pool Inv-loop μ-loop
-slice-set-from-pool c = index-of c .0
+slice-set-from-written : tie.Need-slice-set-from-written Inv-loop μ-loop
+slice-set-from-written c = index-of c .0
 
 -- ---- the next instant
 
 set-part : (c : Set) → let l = at-of c in let s = base l in
-    (s .args .start ≤ s .args .end) × (s .args .end ≤ length (set (l .loop .pool) (s .args .at + l .loop .t) (toZ w32 (ofZ w32 (c .cell-where .result))))) × (s .args .end ≤ 1048576)
+    (s .args .start ≤ s .args .end) × (s .args .end ≤ length (set (l .loop .pool) (s .args .at + l .loop .t) (toZ w32 (c .match .written)))) × (s .args .end ≤ 1048576)
 set-part c = part (base (at-of c)) _ _ _ (more c _ refl)
 
 mul-cursor-next : tie.Need-mul-cursor-next Inv-loop μ-loop
@@ -270,13 +287,13 @@ fill-stretch-spec =
     part-cursor-label-start
     part-cursor-label-end
     cursor-label-requires
-    is-above-requires
+    enum-known-label
     same-length
     returns
-    cell-where-requires
-    add-t15
-    mul-t17
-    slice-set-from-pool
+    enum-told
+    add-written
+    mul-written
+    slice-set-from-written
     mul-cursor-next
     sub-cursor-next
     part-cursor-next-start

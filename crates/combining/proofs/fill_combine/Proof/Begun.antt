@@ -11,9 +11,7 @@ use lib.ListN.{length}
 use Rattle.integers.proofs.Machine.{plain}
 use Rattle.calendar.specs.Meaning.{Row}
 use Rattle.calendar.specs.Checks.{sound}
-use Rattle.granules.specs.Valid.{Valid}
 use Rattle.rows.specs.Cursor.{cursorAt}
-use Rattle.rows.proofs.Numbers.{valid}
 use Rattle.operands.specs.declared.Kind.the-variants.{Combine}
 use Rattle.operands.specs.Operations.{operationOf}
 use Rattle.operands.specs.Stands.{rowIn}
@@ -83,9 +81,6 @@ a-sound k = start k .lends .is-given .sounds .0
 
 pub b-sound : (k : Base) → sound (b-row k) ≡ true
 b-sound k = start k .lends .is-given .sounds .1
-
-pub b-valid : (k : Base) → Valid (b-row k)
-b-valid k = valid (B k .period) (B k .distance) (b-row k .cells) (b-sound k)
 
 -- the parts that are lent lie in the pool
 pub a-part : (k : Base) (new : List ℤ) → length new ≡ length (old k) → (A k .start ≤ A k .end) × (A k .end ≤ length new) × (A k .end ≤ 1048576)

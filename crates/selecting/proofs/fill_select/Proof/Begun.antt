@@ -11,9 +11,7 @@ use lib.ListN.{length}
 use Rattle.integers.proofs.Machine.{plain}
 use Rattle.calendar.specs.Meaning.{Row}
 use Rattle.calendar.specs.Checks.{sound}
-use Rattle.granules.specs.Valid.{Valid}
 use Rattle.rows.specs.Cursor.{cursorAt}
-use Rattle.rows.proofs.Numbers.{valid}
 use Rattle.selections.specs.declared.Selection.{Selection}
 use Rattle.operands.specs.declared.Kind.the-variants.{Select}
 use Rattle.operands.specs.Operations.{operationOf}
@@ -87,9 +85,6 @@ a-sound k = start k .lends .is-given .sounds .0
 
 pub b-sound : (k : Base) → sound (b-row k) ≡ true
 b-sound k = start k .lends .is-given .sounds .1
-
-pub a-valid : (k : Base) → Valid (a-row k)
-a-valid k = valid (A k .period) (A k .distance) (a-row k .cells) (a-sound k)
 
 -- the parts that are lent lie in the pool
 pub a-part : (k : Base) (new : List ℤ) → length new ≡ length (old k) → (A k .start ≤ A k .end) × (A k .end ≤ length new) × (A k .end ≤ 1048576)

@@ -2,15 +2,15 @@
 -- Assumes nothing.
 use borrow.Author.Needs.{sfits-of}
 use borrow.Author.Tests.{not-false}
-use mathlib.Core.Path.{_≡_, refl, sym, _∙_, ap}
-use mathlib.Core.Option.{Option, none, some}
+use mathlib.Core.Path.{_≡_, sym, _∙_}
+use mathlib.Core.Option.{Option, some}
 use mathlib.Core.Bool.{true, _||_}
 use mathlib.Core.List.{List}
-use Prim.Native.Nat.{ℕ, _+_, _-_, _^_, _≤_, _<_}
+use Prim.Native.Nat.{_-_, _^_, _<_}
 use native.Mathlib.Omega.{arith}
-use lib.IntN.{ℤ, pos, _+ℤ_}
+use lib.IntN.{ℤ, pos}
 use lib.ListN.{length}
-use mir.Facts.{toZ-ofZ, sfits-lit}
+use mir.Facts.{toZ-ofZ}
 use mir.Syntax.{w32, w64}
 use mir.Val.{SFits, toZ, ofZ}
 use Rattle.integers.proofs.Linear.{ints, _∴_}
@@ -20,8 +20,7 @@ use Rattle.calendar.specs.Lists.{isSome, ifLabel, first, only, equal}
 use Rattle.calendar.specs.Granules.{granule}
 use Rattle.calendar.specs.Compute.{result, cellOf}
 use Rattle.calendar.specs.Checks.{sound, inRange}
-use Rattle.granules.specs.Valid.{Valid}
-use Rattle.rows.specs.Found.{found, Near, Within}
+use Rattle.rows.specs.Found.{found, Within}
 use Rattle.rows.specs.declared.Cursor.{Cursor}
 use Rattle.rows.specs.Cursor.{cursorAt}
 use Rattle.rows.proofs.Numbers.{valid}
@@ -30,9 +29,9 @@ use Rattle.selections.specs.Deciding.{Decides}
 use Rattle.operands.specs.declared.Kind.the-variants.{Select}
 use Rattle.operands.specs.Operations.{operationOf}
 use Rattle.filling.proofs.Points.{label-small}
-use Rattle.filling.proofs.Working.{range-fits}
-use Rattle.filling.proofs.Turns.{Turn, rowOf, turn-length, rows-kept, rows-stood}
+use Rattle.filling.proofs.Turns.{rowOf, turn-length, rows-kept, rows-stood}
 use Rattle.stretches.specs.Stretch.{Stretched}
+use Rattle.stretches.proofs.Stages.{cell-fits}
 use Rattle.selecting.proofs.Granules.{Selecting, decided-label, selecting-next, granule-on}
 use Rattle.selecting.proofs.fill_select.Proof.Begun.{Inv-loop, μ-loop, Base, entry, by, old, A, B, a-row, b-row, a-sound, started}
 use Rattle.selecting.proofs.fill_select.Tie as tie
@@ -173,10 +172,6 @@ filled-pool c = c .fill-stretch .last .1 .1 .1 .1 .1 .0
 
 pub in-range : (c : tie.Else2 Inv-loop μ-loop) → ifLabel (given-label (c .before .before)) inRange ≡ true
 in-range c = sym (c .before .in-limits .ensures) ∙ not-false _ (c .if2 .left)
-
-cell-fits : (y : Option ℤ) → ifLabel y inRange ≡ true → SFits w32 (cellOf y)
-cell-fits none e = sfits-lit tt
-cell-fits (some j) e = range-fits j e
 
 cell-is : (c : Filled) → toZ w32 (ofZ w32 (c .before .before .cell-of .result)) ≡ cellOf (given-label (labelled-of c))
 cell-is c =
