@@ -1,40 +1,61 @@
-//! Measuring how long two sides take.
+//! Measuring how long several sides take.
 
 use std::time::{Duration, Instant};
 
-/// How long a case is measured at the least, so that a moment in which the
-/// machine serves others too doesn't decide.
+/// How long a case is measured at the least, and in how many rounds.
 const LEAST_TIME: Duration = Duration::from_millis(700);
+const LEAST_ROUNDS: usize = 15;
 
-/// The best of at least so many measurements of each side, in seconds for one
-/// run. The sides take turns, so that whatever else the machine does meets both,
-/// and where possible the time counts that this thread has had a processor.
-/// Short runs are repeated within a measurement until it takes about a
-/// millisecond.
-pub fn best_of(
-    repetitions: usize,
-    mut first: impl FnMut(),
-    mut second: impl FnMut(),
-) -> (f64, f64) {
-    let first_inner = inner_repetitions(&mut first);
-    let second_inner = inner_repetitions(&mut second);
-    let (mut first_best, mut second_best) = (f64::INFINITY, f64::INFINITY);
-    let begin = Instant::now();
-    let mut done = 0;
-    while done < repetitions || begin.elapsed() < LEAST_TIME {
-        first_best = first_best.min(seconds(&mut first, first_inner));
-        second_best = second_best.min(seconds(&mut second, second_inner));
-        done += 1;
+/// The times of several sides in seconds for one run, round by round.
+pub struct Rounds(Vec<Vec<f64>>);
+
+impl Rounds {
+    /// The best time of a side.
+    pub fn best(&self, side: usize) -> f64 {
+        self.0
+            .iter()
+            .map(|times| times[side])
+            .fold(f64::INFINITY, f64::min)
     }
-    (first_best, second_best)
+
+    /// How many times as long as another one a side takes: the median over the
+    /// rounds, so that a machine whose speed changes from time to time tells
+    /// the same.
+    pub fn ratio(&self, side: usize, other: usize) -> f64 {
+        let mut ratios: Vec<f64> = self
+            .0
+            .iter()
+            .map(|times| times[side] / times[other])
+            .collect();
+        ratios.sort_by(f64::total_cmp);
+        ratios[ratios.len() / 2]
+    }
 }
 
-fn inner_repetitions(run: &mut impl FnMut()) -> usize {
+/// Measures the sides in turn, each once a round and right after a run that
+/// isn't measured. Where possible the time counts that this thread has had a
+/// processor. Short runs are repeated within a measurement until it takes about
+/// a millisecond.
+pub fn take_turns(sides: &mut [&mut dyn FnMut()]) -> Rounds {
+    let times: Vec<usize> = sides.iter_mut().map(|run| inner_repetitions(run)).collect();
+    let begin = Instant::now();
+    let mut rounds = Vec::new();
+    while rounds.len() < LEAST_ROUNDS || begin.elapsed() < LEAST_TIME * sides.len() as u32 / 2 {
+        let round = sides.iter_mut().zip(&times).map(|(run, &times)| {
+            run();
+            seconds(run, times)
+        });
+        rounds.push(round.collect());
+    }
+    Rounds(rounds)
+}
+
+fn inner_repetitions(run: &mut dyn FnMut()) -> usize {
     let once = seconds(run, 1).min(seconds(run, 1));
     (1e-3 / once.max(1e-9)).ceil().clamp(1.0, 1e6) as usize
 }
 
-fn seconds(run: &mut impl FnMut(), times: usize) -> f64 {
+fn seconds(run: &mut dyn FnMut(), times: usize) -> f64 {
     let begin = clock::now();
     for _ in 0..times {
         run();

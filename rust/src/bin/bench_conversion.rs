@@ -2,9 +2,7 @@
 
 use jogipahn_compare::core;
 use jogipahn_compare::second::{self, CELL_LIMIT, EMPTY};
-use jogipahn_compare::timing::{best_of, readable};
-
-const REPETITIONS: usize = 11;
+use jogipahn_compare::timing::{readable, take_turns, Rounds};
 
 type Entry = [i32; 6];
 
@@ -23,12 +21,6 @@ fn uneven(group: i32, g: i32, p: i32) -> Entry {
 /// All days but the first of each slot of b.
 fn but_first(b: i32) -> Entry {
     [6, 0, b, 2, 1_000_000, 0]
-}
-
-struct Times {
-    cells: f64,
-    core: f64,
-    second: f64,
 }
 
 /// The shortest pool in which the table's answer is that of the longest.
@@ -51,56 +43,107 @@ fn least_pool(table: &[i32]) -> usize {
     high
 }
 
-/// Converts the table on both sides, in a pool just long enough.
-fn measure(name: &str, entries: &[Entry]) -> Times {
-    let pool = least_pool(entries.as_flattened());
-    measure_in(name, entries, pool)
+struct Lists {
+    headings: Vec<u32>,
+    pool: Vec<i32>,
 }
 
-fn measure_in(name: &str, entries: &[Entry], cells: usize) -> Times {
-    let table = entries.as_flattened();
-    let mut headings = vec![0; table.len() / 2];
-    let mut pool = vec![EMPTY; cells];
-    let mut expected_headings = headings.clone();
-    let mut expected_pool = pool.clone();
-    let answer = core::convert(table, &mut headings, &mut pool);
-    assert_eq!(
-        answer,
-        second::convert(table, &mut expected_headings, &mut expected_pool)
-    );
-    assert!(
-        headings == expected_headings && pool == expected_pool,
-        "{name}: lists differ"
-    );
-    let (core, second) = best_of(
-        REPETITIONS,
-        || {
-            std::hint::black_box(core::convert(table, &mut headings, &mut pool)).ok();
-        },
-        || {
-            std::hint::black_box(second::convert(
-                table,
-                &mut expected_headings,
-                &mut expected_pool,
-            ))
-            .ok();
-        },
-    );
-    let told = match answer {
-        Ok(()) => format!("last row {:>9}", headings[headings.len() - 2]),
-        Err((number, entry)) => format!("refused {number} at {entry:<5}"),
-    };
-    println!(
-        "{name:<52} pool {cells:>9}   {told}   core {:>10}   second {:>10}   core/second {:.2}",
-        readable(core),
-        readable(second),
-        core / second
-    );
-    Times {
-        cells: cells as f64,
-        core,
-        second,
+/// A table with lists for either side.
+struct Case {
+    table: Vec<i32>,
+    core: Lists,
+    second: Lists,
+    told: String,
+}
+
+impl Case {
+    /// A pool of so many cells. Both sides must leave the same.
+    fn new(name: &str, entries: &[Entry], cells: usize) -> Self {
+        let table = entries.as_flattened().to_vec();
+        let lists = || Lists {
+            headings: vec![0; table.len() / 2],
+            pool: vec![EMPTY; cells],
+        };
+        let (mut core, mut second) = (lists(), lists());
+        let answer = core::convert(&table, &mut core.headings, &mut core.pool);
+        assert_eq!(
+            answer,
+            second::convert(&table, &mut second.headings, &mut second.pool)
+        );
+        assert!(
+            core.headings == second.headings && core.pool == second.pool,
+            "{name}: lists differ"
+        );
+        let told = match answer {
+            Ok(()) => format!("last row {:>9}", core.headings[core.headings.len() - 2]),
+            Err((number, entry)) => format!("refused {number} at {entry:<5}"),
+        };
+        Case {
+            table,
+            core,
+            second,
+            told,
+        }
     }
+
+    /// A pool just long enough.
+    fn fitting(name: &str, entries: &[Entry]) -> Self {
+        let cells = least_pool(entries.as_flattened());
+        Case::new(name, entries, cells)
+    }
+
+    fn cells(&self) -> usize {
+        self.core.pool.len()
+    }
+
+    /// Says how long the two sides took that are measured as these.
+    fn report(&self, name: &str, rounds: &Rounds, core: usize, second: usize) {
+        println!(
+            "{name:<52} pool {:>9}   {}   core {:>10}   second {:>10}   core/second {:.2}",
+            self.cells(),
+            self.told,
+            readable(rounds.best(core)),
+            readable(rounds.best(second)),
+            rounds.ratio(core, second)
+        );
+    }
+}
+
+fn run_core(table: &[i32], lists: &mut Lists) {
+    std::hint::black_box(core::convert(table, &mut lists.headings, &mut lists.pool)).ok();
+}
+
+fn run_second(table: &[i32], lists: &mut Lists) {
+    std::hint::black_box(second::convert(table, &mut lists.headings, &mut lists.pool)).ok();
+}
+
+/// Measures both sides.
+fn measure(name: &str, mut case: Case) {
+    let rounds = take_turns(
+        &mut [&mut || run_core(&case.table, &mut case.core), &mut || {
+            run_second(&case.table, &mut case.second)
+        }],
+    );
+    case.report(name, &rounds, 0, 1);
+}
+
+/// Measures both sides at two sizes in turn, and says how they grow.
+fn measure_growth(name: &str, mut small: Case, mut large: Case) {
+    let rounds = take_turns(&mut [
+        &mut || run_core(&small.table, &mut small.core),
+        &mut || run_second(&small.table, &mut small.second),
+        &mut || run_core(&large.table, &mut large.core),
+        &mut || run_second(&large.table, &mut large.second),
+    ]);
+    small.report(name, &rounds, 0, 1);
+    large.report(name, &rounds, 2, 3);
+    println!(
+        "{:<52} grows by the factor   cells {:.1}   core {:.1}   second {:.1}",
+        "",
+        large.cells() as f64 / small.cells() as f64,
+        rounds.ratio(2, 0),
+        rounds.ratio(3, 1)
+    );
 }
 
 /// Months and years by grouping 31 days and altering, as in source 000.
@@ -186,10 +229,8 @@ fn each_kind(
 }
 
 fn main() {
-    println!(
-        "Best of {REPETITIONS} or more. Both sides convert the same table into lists of their own, which"
-    );
-    println!("aren't cleared between runs on either side; each run writes every cell and heading.");
+    println!("Best times of many rounds, and medians of the ratios in each. Both sides convert the same table into lists of");
+    println!("their own, which aren't cleared between runs on either side; each run writes every cell and heading.");
 
     println!("\nCivil calendars with months and years");
     for (name, by_the_hour, years) in [
@@ -200,33 +241,25 @@ fn main() {
         ("100 years by the day", false, 100),
         ("400 years by the day", false, 400),
     ] {
-        measure(name, &civil(by_the_hour, years));
+        measure(name, Case::fitting(name, &civil(by_the_hour, years)));
     }
 
     println!("\nEach kind (* a long operand stands in the pool too, and rows are half as long)");
     let small = each_kind(359, 367, 181, 359, 18_700);
     let large = each_kind(1019, 1021, 509, 1013, 149_000);
     for ((name, small), (_, large)) in small.iter().zip(&large) {
-        let (small, large) = (measure(name, small), measure(name, large));
-        println!(
-            "{:<52} grows by the factor   cells {:.1}   core {:.1}   second {:.1}",
-            "",
-            large.cells / small.cells,
-            large.core / small.core,
-            large.second / small.second
-        );
+        measure_growth(name, Case::fitting(name, small), Case::fitting(name, large));
     }
 
     println!("\nWorst cases (the pool holds no more than two rows of 524,288 cells)");
     for (name, entries) in worst_cases() {
-        measure(name, &entries);
+        measure(name, Case::fitting(name, &entries));
     }
 
     // Bottom's row has one cell; what grows with the pool is the clearing.
     println!("\nClearing a pool");
-    for cells in [1 << 17, 1 << 20] {
-        measure_in("bottom in a long pool", &[BOTTOM], cells);
-    }
+    let bottom = |cells| Case::new("bottom", &[BOTTOM], cells);
+    measure_growth("bottom in a long pool", bottom(1 << 17), bottom(1 << 20));
 }
 
 /// What would take long if it weren't done in time linear in the row.

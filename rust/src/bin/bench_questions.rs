@@ -3,9 +3,7 @@
 use jogipahn_compare::core;
 use jogipahn_compare::second::questions::{self as second, Row};
 use jogipahn_compare::second::{CELL_LIMIT, EMPTY};
-use jogipahn_compare::timing::{best_of, readable};
-
-const REPETITIONS: usize = 15;
+use jogipahn_compare::timing::{readable, take_turns, Rounds};
 
 struct Cells {
     cells: Vec<i32>,
@@ -48,41 +46,39 @@ impl Cells {
     }
 }
 
-fn report(name: &str, cells: usize, core: f64, second: f64) {
+fn report(name: &str, cells: usize, rounds: &Rounds) {
     println!(
         "{name:<46} {cells:>9} cells   core {:>10}   second {:>10}   core/second {:.2}",
-        readable(core),
-        readable(second),
-        core / second
+        readable(rounds.best(0)),
+        readable(rounds.best(1)),
+        rounds.ratio(0, 1)
     );
 }
 
 fn up_instant(name: &str, row: Row, t: i64) {
     assert_eq!(core::up_instant(row, t), second::up_instant(row, t));
-    let (core, second) = best_of(
-        REPETITIONS,
-        || {
+    let rounds = take_turns(&mut [
+        &mut || {
             std::hint::black_box(core::up_instant(std::hint::black_box(row), t)).ok();
         },
-        || {
+        &mut || {
             std::hint::black_box(second::up_instant(std::hint::black_box(row), t)).ok();
         },
-    );
-    report(name, row.cells.len(), core, second);
+    ]);
+    report(name, row.cells.len(), &rounds);
 }
 
 fn up_granule(name: &str, g: Row, h: Row, z: i64) {
     assert_eq!(core::up_granule(g, h, z), second::up_granule(g, h, z));
-    let (core, second) = best_of(
-        REPETITIONS,
-        || {
+    let rounds = take_turns(&mut [
+        &mut || {
             std::hint::black_box(core::up_granule(std::hint::black_box(g), h, z)).ok();
         },
-        || {
+        &mut || {
             std::hint::black_box(second::up_granule(std::hint::black_box(g), h, z)).ok();
         },
-    );
-    report(name, g.cells.len(), core, second);
+    ]);
+    report(name, g.cells.len(), &rounds);
 }
 
 fn down(name: &str, h: Row, g: Row, z: i64, most: usize) {
@@ -93,20 +89,19 @@ fn down(name: &str, h: Row, g: Row, z: i64, most: usize) {
         second::down(h, g, z, &mut expected)
     );
     assert_eq!(parts, expected);
-    let (core, second) = best_of(
-        REPETITIONS,
-        || {
+    let rounds = take_turns(&mut [
+        &mut || {
             std::hint::black_box(core::down(std::hint::black_box(h), g, z, &mut parts)).ok();
         },
-        || {
+        &mut || {
             std::hint::black_box(second::down(std::hint::black_box(h), g, z, &mut expected)).ok();
         },
-    );
-    report(name, h.cells.len(), core, second);
+    ]);
+    report(name, h.cells.len(), &rounds);
 }
 
 fn main() {
-    println!("Best of {REPETITIONS} or more; each question tests its rows by rule 13 first.");
+    println!("Best times of many rounds, and medians of the ratios in each; each question tests its rows by rule 13 first.");
     println!(
         "The list of parts is as long as needed and not cleared between runs, on either side."
     );
