@@ -51,9 +51,3 @@ module _ (a b : Row) (va : Valid a) (vb : Valid b) where
 
   pub repeats-right : Repeats (spanOf (turn a) (turn b)) (rise (turn b) (spanOf (turn a) (turn b))) (meant b)
   repeats-right = repeats-over b vb (spanOf (turn a) (turn b)) span-positive (span-dvd (turn a) (turn b) .1)
-
-  pub period-left : a .period ≤ spanOf (turn a) (turn b)
-  period-left = le-of-dvd span-positive (span-dvd (turn a) (turn b) .0)
-
-  pub period-right : b .period ≤ spanOf (turn a) (turn b)
-  period-right = le-of-dvd span-positive (span-dvd (turn a) (turn b) .1)

@@ -7,7 +7,7 @@ use mathlib.Core.List.{List}
 use Prim.Native.Nat.{_^_, _≤_, _<_}
 use native.Mathlib.Omega.{arith}
 use lib.Dec.{eqb}
-use lib.IntN.{ℤ, pos, negsuc, _+ℤ_, _-ℤ_, _*ℤ_}
+use lib.IntN.{ℤ, pos, _+ℤ_, _-ℤ_, _*ℤ_}
 use lib.Signed.{_≤ℤ_, _<ℤ_}
 use mir.Syntax.{w64}
 use mir.Val.{SFits}
@@ -30,12 +30,6 @@ use Rattle.alterations.specs.Begins.{at, Begins}
 use Rattle.alterations.specs.Follows.{Altering, turnCoarse, turnFine, begins, Origin, Walks}
 use Rattle.alterations.proofs.Tiled.{coarse-low, begins-turns, begins-mono, begins-reflects, begins-step}
 use Rattle.alterations.proofs.Reach.{coarse-high, fine-high, instant-reach}
-
--- a measure that falls
-pub left-less : (x y : ℤ) → x <ℤ y → pos 0 <ℤ y → up x < up y
-left-less (pos a) (pos b) h k = omega (arith, simp ints at h)
-left-less (negsuc a) (pos b) h k = omega (arith, simp ints at k)
-left-less x (negsuc b) h k = absurd (k .lt)
 
 -- ---- one altered granule on
 

@@ -5,10 +5,10 @@ use mathlib.Core.Option.{none, some}
 use Prim.Native.Nat.{ℕ, _<_}
 use native.Mathlib.Omega.{arith}
 use lib.IntN.{ℤ, pos, negsuc, _+ℤ_, _-ℤ_}
-use lib.Signed.{_≤ℤ_, _<ℤ_}
+use lib.Signed.{_≤ℤ_}
 use Rattle.integers.specs.Parts.{up}
 use Rattle.integers.proofs.Linear.{ints, _∴_}
-use Rattle.integers.proofs.Order.{Cases, cases}
+use Rattle.integers.proofs.Order.{up-less, Cases, cases}
 use Rattle.integers.proofs.Order.Cases.{below, equal, above}
 use Rattle.calendar.specs.Meaning.{Row, Calendar, meant}
 use Rattle.calendar.specs.Compute.{anchored}
@@ -30,11 +30,6 @@ pub record Back (r : Row) (c : Cursor) : Type 0 where
 -- how far it may still go
 abbrev pub left : Row → Cursor → ℕ
 left r c = up (instant r c +ℤ pos (r .period) +ℤ pos 1)
-
-up-less : (x y : ℤ) → x <ℤ y → pos 0 <ℤ y → up x < up y
-up-less (pos a) (pos b) h k = omega (arith, simp ints at h)
-up-less (negsuc a) (pos b) h k = omega (arith, simp ints at k)
-up-less x (negsuc b) h k = absurd (k .lt)
 
 step-less : (P : ℕ) (u s : ℤ) → s ≡ u -ℤ pos 1 → (negsuc 0 -ℤ pos P) ≤ℤ s → up (s +ℤ pos P +ℤ pos 1) < up (u +ℤ pos P +ℤ pos 1)
 step-less P u s step low = up-less (s +ℤ pos P +ℤ pos 1) (u +ℤ pos P +ℤ pos 1) (step ∴ simp ints (omega arith)) (step ∴ low ∴ simp ints (omega arith))

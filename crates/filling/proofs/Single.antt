@@ -1,6 +1,6 @@
 -- A kind with one operand, given it twice: what holds of it holds over any second row.
 -- Assumes nothing.
-use mathlib.Core.Path.{_≡_, refl, ap}
+use mathlib.Core.Path.{_≡_, refl}
 use mathlib.Core.Option.{some}
 use mathlib.Core.Bool.{true}
 use Prim.Native.Nat.{_≤_}
@@ -9,7 +9,6 @@ use native.Mathlib.Omega.{arith}
 use lib.IntN.{ℤ}
 use Rattle.integers.proofs.Divisors.{lcm-least}
 use Rattle.calendar.specs.Meaning.{Row}
-use Rattle.calendar.specs.Operation.{Operation}
 use Rattle.calendar.specs.Operation.Operation.{bottom}
 use Rattle.calendar.specs.Size.{turn, spanOf}
 use Rattle.calendar.specs.Compute.{result}
@@ -49,9 +48,6 @@ operation-over Combine a b e = absurd (omega arith)
 operation-over Anchor a b e = absurd (omega arith)
 operation-over (Select w) a b e = absurd (omega arith)
 operation-over (ByLabels w) a b e = absurd (omega arith)
-
-pub result-over : (k : Kind) (a b : Row) (t : ℤ) → operands k ≡ 1 → result (operationOf k a a) t ≡ result (operationOf k a b) t
-result-over k a b t e = ap (λ (o : Operation Row). result o t) (operation-over k a b e)
 
 -- bottom has none, and labels each instant with itself
 pub bottom-of : (t : ℤ) → result bottom t ≡ some t

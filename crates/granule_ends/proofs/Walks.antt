@@ -8,7 +8,7 @@ use lib.IntN.{ℤ, pos, negsuc, _+ℤ_, _-ℤ_, _*ℤ_}
 use lib.Signed.{_≤ℤ_, _<ℤ_}
 use Rattle.integers.specs.Parts.{up}
 use Rattle.integers.proofs.Linear.{ints, _∴_}
-use Rattle.integers.proofs.Order.{≤ℤ-antisym, Cases, cases}
+use Rattle.integers.proofs.Order.{≤ℤ-antisym, up-less, Cases, cases}
 use Rattle.integers.proofs.Order.Cases.{below, equal, above}
 use Rattle.calendar.specs.Meaning.{Row, meant}
 use Rattle.calendar.specs.Lists.{first, last}
@@ -50,11 +50,6 @@ left P t u = up (u -ℤ t +ℤ pos P)
 
 abbrev pub ahead : ℕ → ℤ → ℤ → ℕ
 ahead P t u = up (t -ℤ u +ℤ pos P)
-
-left-less : (x y : ℤ) → x <ℤ y → pos 0 <ℤ y → up x < up y
-left-less (pos a) (pos b) h k = omega (arith, simp ints at h)
-left-less (negsuc a) (pos b) h k = omega (arith, simp ints at k)
-left-less x (negsuc b) h k = absurd (k .lt)
 
 module _ (r : Row) (v : Valid r) where
   -- the first and the last instant of a granule, by what is known of them
@@ -142,7 +137,7 @@ module _ (r : Row) (v : Valid r) where
         by w l (above m) = b .least w (m ∴ simp ints (omega arith)) l
 
     pub back-less : left (r .period) t u′ < left (r .period) t u
-    back-less = left-less (u′ -ℤ t +ℤ pos (r .period)) (u -ℤ t +ℤ pos (r .period)) (step ∴ simp ints (omega arith)) (b .low ∴ simp ints (omega arith))
+    back-less = up-less (u′ -ℤ t +ℤ pos (r .period)) (u -ℤ t +ℤ pos (r .period)) (step ∴ simp ints (omega arith)) (b .low ∴ simp ints (omega arith))
 
   -- ---- forth
 
@@ -208,4 +203,4 @@ module _ (r : Row) (v : Valid r) where
         by w l (above m) = b .greatest w (m ∴ simp ints (omega arith)) l
 
     pub forth-less : ahead (r .period) t u′ < ahead (r .period) t u
-    forth-less = left-less (t -ℤ u′ +ℤ pos (r .period)) (t -ℤ u +ℤ pos (r .period)) (step ∴ simp ints (omega arith)) (b .high ∴ simp ints (omega arith))
+    forth-less = up-less (t -ℤ u′ +ℤ pos (r .period)) (t -ℤ u +ℤ pos (r .period)) (step ∴ simp ints (omega arith)) (b .high ∴ simp ints (omega arith))

@@ -122,9 +122,6 @@ module _ (a b : Row) (v : Valid a) (w : Valid b) (s m n : ℤ) (f : Moves (meant
 
 -- ---- whole periods
 
-pub granule-periods : (r : Row) → Valid r → (m : ℕ) (j : ℤ) → granule r (j +ℤ pos (r .distance * m)) ≡ moved (pos (r .period * m)) (granule r j)
-granule-periods r v m = granule-along r v (pos (r .period * m)) (pos (r .distance * m)) (moves r v m)
-
 pub has-periods : (r : Row) → Valid r → (m : ℕ) (j : ℤ) → has r (j +ℤ pos (r .distance * m)) ≡ has r j
 has-periods r v m = has-along r v (pos (r .period * m)) (pos (r .distance * m)) (moves r v m)
 

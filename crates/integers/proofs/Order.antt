@@ -35,6 +35,12 @@ le-or-lt a b = by (decLeℤ a b)
     by (yes h) = inl h
     by (no f) = inr (f ∴ simp ints (omega arith))
 
+-- what is left of a number that falls, while it is above 0
+pub up-less : (x y : ℤ) → x <ℤ y → pos 0 <ℤ y → up x < up y
+up-less (pos a) (pos b) h k = omega (arith, simp ints at h)
+up-less (negsuc a) (pos b) h k = omega (arith, simp ints at k)
+up-less x (negsuc b) h k = absurd (k .lt)
+
 -- the three cases of two integers
 pub data Cases (a b : ℤ) : Type 0 where
   below : a <ℤ b → Cases a b

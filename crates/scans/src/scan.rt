@@ -58,21 +58,28 @@ pub fn position(cells: &[i32], z: i32) -> usize
     i
 }
 
-// The last label from the first on, which stands at `start`; nothing where labels fall. An empty cell is below every label.
+// The last label from the first on, which stands at `start`; nothing where labels fall. An empty cell is below every label. Two cells a turn: a loop of a few
+// instructions is fast or slow by where it comes to lie. Where their number is odd, the first needs no look.
 pub fn last_label(cells: &[i32], start: usize) -> Found
     requires { do ⌜ start < (← ⟦cells.len()⟧) ⌝ }
     ensures { λ r. ⌜ found r ≡ risen (getD (now (cells .entry)) start empty) (drop start (now (cells .entry))) ⌝ }
 {
     let mut last = cells[start];
-    let mut i = start;
+    let mut i = start + (cells.len() - start) % 2;
     while i < cells.len() {
-        let z = cells[i];
+        let y = cells[i];
+        if y >= last {
+            last = y;
+        } else if y != Calendar::EMPTY {
+            return Found::Nothing;
+        }
+        let z = cells[i + 1];
         if z >= last {
             last = z;
         } else if z != Calendar::EMPTY {
             return Found::Nothing;
         }
-        i += 1;
+        i += 2;
     }
     Found::At(last as i64)
 }

@@ -103,8 +103,5 @@ module _ {a b : Turn} {x : ℕ} {z : ℤ} {s : ℕ} (p : Alterable a b x z s) wh
   all : Computed a b x z (Size.rise (turnOf b) s) (Size.rise (turnOf a) s) (gcd (Size.rise (turnOf b) s) x)
   all = computed p (Size.rise (turnOf b) s) (Size.rise (turnOf a) s) refl refl (gcd (Size.rise (turnOf b) s) x) refl
 
-  pub coarse-limit : Size.coarse (turnOf a) (turnOf b) x ≤ mostCoarse
-  coarse-limit = rw (← all .coarse) (all .coarse-at-most)
-
   pub fine-limits : (negℤ (pos (2 * mostCoarse)) ≤ℤ Size.fine (turnOf a) (turnOf b) x z) × (Size.fine (turnOf a) (turnOf b) x z ≤ℤ pos (2 * mostCoarse))
   fine-limits = rw (← all .fine) (all .fine-low, all .fine-high)

@@ -17,7 +17,7 @@ use Rattle.alterations.specs.declared.Alteration.{Alteration}
 use Rattle.alterations.specs.declared.ahead.Walk.{Walk}
 use Rattle.alterations.specs.Follows.{Altering, begins, Holds, Walks}
 use Rattle.alterations.proofs.Tiled.{begins-rise}
-use Rattle.alterations.proofs.Walking.{left-less}
+use Rattle.integers.proofs.Order.{up-less}
 use Rattle.alterations.proofs.ahead.advance_to.Statement.{statement}
 use Rattle.alterations.proofs.ahead.advance_to.Tie as tie
 
@@ -95,7 +95,7 @@ loop-less c =
     let d = c .before in
     let s = begun d in
     let l = less (s .args .by) (a-row s) (b-row s) (required s .1 .1 .0) (walk d) (c .advance .result) (d .before .before .before .loop .inv .0) (c .advance .ensures .0) (c .advance .ensures .1 .0) in
-    left-less (J s +ℤ pos 1 -ℤ c .advance .result .next) (J s +ℤ pos 1 -ℤ walk d .next) (l ∴ simp ints (omega arith)) (next-low d ∴ simp ints (omega arith))
+    up-less (J s +ℤ pos 1 -ℤ c .advance .result .next) (J s +ℤ pos 1 -ℤ walk d .next) (l ∴ simp ints (omega arith)) (next-low d ∴ simp ints (omega arith))
 
 loop-again : tie.Need-loop-again Inv-loop μ-loop
 loop-again c =

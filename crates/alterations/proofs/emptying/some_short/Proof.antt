@@ -21,7 +21,7 @@ use Rattle.alterations.specs.declared.coarse.Begin.{Begin}
 use Rattle.alterations.specs.Begins.{at}
 use Rattle.alterations.specs.Short.{shortBy, Passable}
 use Rattle.alterations.proofs.Beginnings.{Next}
-use Rattle.alterations.proofs.Walking.{left-less}
+use Rattle.integers.proofs.Order.{up-less}
 use Rattle.alterations.proofs.Passes.{Passed, Small, passed-start, passed-place, passed-small, passed-short, passed-next, passed-end}
 use Rattle.alterations.proofs.emptying.some_short.Statement.{statement}
 use Rattle.alterations.proofs.emptying.some_short.Tie as tie
@@ -202,7 +202,7 @@ loop-less : tie.Need-loop-less Inv-loop μ-loop
 loop-less c =
     let d = behind (c .before .before) in
     let l = at-loop c in
-    left-less (count (l .before) -ℤ toZ w64 (ofZ w64 (toZ w64 (l .loop .n) +ℤ pos 1))) (count (l .before) -ℤ toZ w64 (l .loop .n))
+    up-less (count (l .before) -ℤ toZ w64 (ofZ w64 (toZ w64 (l .loop .n) +ℤ pos 1))) (count (l .before) -ℤ toZ w64 (l .loop .n))
     (n-next c ∴ simp ints (omega arith)) (more (d .before) ∴ simp ints (omega arith))
 
 loop-again : tie.Need-loop-again Inv-loop μ-loop
