@@ -50,6 +50,25 @@ pub fn take_turns(sides: &mut [&mut dyn FnMut()]) -> Rounds {
     Rounds(rounds)
 }
 
+/// Has freed memory kept for the next run, so that a side that allocates isn't
+/// charged each time for getting its pages anew.
+pub fn keep_memory() {
+    #[cfg(all(target_os = "linux", target_env = "gnu"))]
+    {
+        const TRIM_THRESHOLD: i32 = -1;
+        const MMAP_THRESHOLD: i32 = -3;
+
+        extern "C" {
+            fn mallopt(parameter: i32, value: i32) -> i32;
+        }
+
+        // SAFETY: these set numbers of the allocator, before any other thread
+        // is there.
+        let kept = unsafe { mallopt(TRIM_THRESHOLD, 1 << 30) & mallopt(MMAP_THRESHOLD, 1 << 25) };
+        assert_eq!(kept, 1, "the allocator can't be told to keep memory");
+    }
+}
+
 fn inner_repetitions(run: &mut dyn FnMut()) -> usize {
     let once = seconds(run, 1).min(seconds(run, 1));
     (1e-3 / once.max(1e-9)).ceil().clamp(1.0, 1e6) as usize

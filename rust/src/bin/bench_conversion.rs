@@ -2,7 +2,7 @@
 
 use jogipahn_compare::core;
 use jogipahn_compare::second::{self, CELL_LIMIT, EMPTY};
-use jogipahn_compare::timing::{readable, take_turns, Rounds};
+use jogipahn_compare::timing::{keep_memory, readable, take_turns, Rounds};
 
 type Entry = [i32; 6];
 
@@ -229,8 +229,10 @@ fn each_kind(
 }
 
 fn main() {
+    keep_memory();
     println!("Best times of many rounds, and medians of the ratios in each. Both sides convert the same table into lists of");
-    println!("their own, which aren't cleared between runs on either side; each run writes every cell and heading.");
+    println!("their own, which aren't cleared between runs on either side; each run writes every cell and heading. What the");
+    println!("second implementation allocates is kept for its next run.");
 
     println!("\nCivil calendars with months and years");
     for (name, by_the_hour, years) in [

@@ -3,7 +3,7 @@
 use jogipahn_compare::core;
 use jogipahn_compare::second::questions::{self as second, Row};
 use jogipahn_compare::second::{CELL_LIMIT, EMPTY};
-use jogipahn_compare::timing::{readable, take_turns, Rounds};
+use jogipahn_compare::timing::{keep_memory, readable, take_turns, Rounds};
 
 struct Cells {
     cells: Vec<i32>,
@@ -101,6 +101,7 @@ fn down(name: &str, h: Row, g: Row, z: i64, most: usize) {
 }
 
 fn main() {
+    keep_memory();
     println!("Best times of many rounds, and medians of the ratios in each; each question tests its rows by rule 13 first.");
     println!(
         "The list of parts is as long as needed and not cleared between runs, on either side."
