@@ -58,8 +58,8 @@ pub fn position(cells: &[i32], z: i32) -> usize
     i
 }
 
-// The last label from the first on, which stands at `start`; nothing where labels fall. An empty cell is below every label. Two cells a turn: a loop of a few
-// instructions is fast or slow by where it comes to lie. Where their number is odd, the first needs no look.
+// The last label from the first on, which stands at `start`; nothing where labels fall. An empty cell is below every label. Two cells a turn: with
+// one, the loop was fast in one program and slow in another. Where their number is odd, the first needs no look.
 pub fn last_label(cells: &[i32], start: usize) -> Found
     requires { do ⌜ start < (← ⟦cells.len()⟧) ⌝ }
     ensures { λ r. ⌜ found r ≡ risen (getD (now (cells .entry)) start empty) (drop start (now (cells .entry))) ⌝ }
