@@ -1,5 +1,4 @@
 -- The answer of the code for what converting a table comes to.
-use Prim.Native.Nat.{ℕ}
 use Rattle.calendar.specs.Table.{Outcome}
 use Rattle.calendar.specs.Table.Outcome.{refusedAt, rows}
 use Rattle.conversion.specs.declared.Conversion.{Conversion}

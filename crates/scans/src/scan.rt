@@ -58,8 +58,8 @@ pub fn position(cells: &[i32], z: i32) -> usize
     i
 }
 
-// The last label from the first on, which stands at `start`; nothing where labels fall. An empty cell is below every label. Two cells a turn: with
-// one, the loop was fast in one program and slow in another. Where their number is odd, the first needs no look.
+// The last label from the first on, which stands at `start`; nothing where labels fall. An empty cell is below every label. A turn looks at two cells; where
+// their number is odd, the first, which has the label itself, is left out.
 pub fn last_label(cells: &[i32], start: usize) -> Found
     requires { do ⌜ start < (← ⟦cells.len()⟧) ⌝ }
     ensures { λ r. ⌜ found r ≡ risen (getD (now (cells .entry)) start empty) (drop start (now (cells .entry))) ⌝ }

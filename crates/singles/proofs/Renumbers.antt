@@ -1,13 +1,13 @@
 -- The turns of the loop that renumbers labels: it keeps the last label and its number.
 -- Assumes nothing.
 use mathlib.Core.Path.{_≡_, refl, sym, _∙_, ap, subst}
-use mathlib.Core.Option.{Option, some, Option·map}
+use mathlib.Core.Option.{Option, Option·map}
 use mathlib.Core.Bool.{Bool, true, false, cond, _||_}
 use mathlib.Core.List.{List}
 use Prim.Native.Nat.{ℕ, _+_, _-_, _≤_, _<_}
 use native.Mathlib.Omega.{arith}
 use lib.IntN.{ℤ, pos, _+ℤ_}
-use lib.ListN.{length, getD, set, take, drop, length-take, length-drop}
+use lib.ListN.{length, getD, set, length-take}
 use mir.Syntax.{w64}
 use mir.Val.{SFits}
 use Rattle.integers.specs.Parts.{up}
@@ -18,10 +18,10 @@ use Rattle.calendar.specs.Operation.Unary.{renumber}
 use Rattle.calendar.specs.Operation.Operation.{unary}
 use Rattle.calendar.specs.Lists.{isSome, ifLabel}
 use Rattle.calendar.specs.Size.{size}
-use Rattle.calendar.specs.Compute.{result, renumbered, cellOf}
+use Rattle.calendar.specs.Compute.{renumbered, cellOf}
 use Rattle.calendar.specs.Checks.{inRange, poolLimit}
 use Rattle.granules.specs.Valid.{Valid}
-use Rattle.rows.proofs.Numbers.{Numbers, numbers, valid}
+use Rattle.rows.proofs.Numbers.{numbers, valid}
 use Rattle.operands.specs.declared.Kind.the-variants.{Renumber}
 use Rattle.filling.specs.declared.Filled.the-variants.{Labelled, Unlabelled, OutOfRange}
 use Rattle.filling.proofs.Turns.{Lent, Turn, Fills, rowOf, a-kept, turn-length, turn-ends, turn-index, turn-more, turn-out, turn-done}

@@ -3,7 +3,7 @@
 use mathlib.Core.Path.{_≡_, refl, sym, _∙_, ap, subst}
 use mathlib.Core.Logic.{_⊎_, inl, inr}
 use mathlib.Core.Option.{Option, none, some}
-use mathlib.Core.Bool.{Bool, true, false, _||_}
+use mathlib.Core.Bool.{Bool, true, false, _||_, or-true}
 use mathlib.Core.List.{List}
 use Prim.Native.Nat.{ℕ, zero, suc, _+_, _-_, _≤_, _<_}
 use native.Mathlib.Omega.{arith}
@@ -46,10 +46,6 @@ spread-range y (some j) e = e
 abbrev marks : Option ℤ → Row → ℕ → ℕ → Bool → Bool
 marks y r t zero labelled = labelled
 marks y r t (suc n) labelled = isSome (spread y (meant r (pos (t + n)))) || marks y r t n labelled
-
-or-true : (x : Bool) → x || true ≡ true
-or-true true = refl
-or-true false = refl
 
 marks-none : (r : Row) (t n : ℕ) (labelled : Bool) → marks none r t n labelled ≡ labelled
 marks-none r t zero labelled = refl

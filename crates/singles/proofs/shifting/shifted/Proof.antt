@@ -1,7 +1,7 @@
 -- `singles::shifting::shifted` meets its contract: the sum of a label and a number within the limits fits a cell, and is no empty mark.
 -- Assumes nothing.
 use mathlib.Core.Path.{_≡_, sym, _∙_, ap}
-use mathlib.Core.Option.{Option, none, some}
+use mathlib.Core.Option.{none, some}
 use native.Mathlib.Omega.{arith}
 use lib.IntN.{ℤ, _+ℤ_}
 use mir.Facts.{toZ-ofZ, sfits-lit}
