@@ -20,7 +20,7 @@ use Rattle.calendar.specs.Checks.{poolLimit}
 use Rattle.granules.proofs.Rows.{label-is}
 use Rattle.rows.specs.declared.Cursor.{Cursor}
 use Rattle.rows.specs.Cursor.{cursorAt}
-use Rattle.alterations.specs.declared.Alteration.{Alteration}
+use Rattle.kinds.specs.declared.Alteration.{Alteration}
 use Rattle.alterations.specs.declared.Repeat.{Repeat}
 use Rattle.alterations.specs.declared.Altered.{Altered}
 use Rattle.alterations.specs.declared.ahead.Walk.{Walk}

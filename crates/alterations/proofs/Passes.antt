@@ -21,7 +21,7 @@ use Rattle.rows.specs.Found.{Sound, Within}
 use Rattle.rows.proofs.Numbers.{numbers}
 use Rattle.rows.proofs.Bounds.{label-bound}
 use Rattle.algebra.proofs.Fine.{Partitioned, low, high, low-next}
-use Rattle.alterations.specs.declared.Alteration.{Alteration}
+use Rattle.kinds.specs.declared.Alteration.{Alteration}
 use Rattle.alterations.specs.declared.coarse.Begin.{Begin}
 use Rattle.alterations.specs.Begins.{at, Begins}
 use Rattle.alterations.specs.Short.{shortBy, short}

@@ -18,7 +18,7 @@ use Rattle.calendar.specs.Size.{Turn, turn, spanOf, rise, coarse, fine}
 use Rattle.granules.proofs.Calendars.{label-moved}
 use Rattle.algebra.proofs.Span.{repeats-right, rise-positive-right}
 use Rattle.algebra.proofs.Fine.{riseCoarse, riseFine}
-use Rattle.alterations.specs.declared.Alteration.{Alteration}
+use Rattle.kinds.specs.declared.Alteration.{Alteration}
 use Rattle.alterations.specs.declared.Repeat.{Repeat}
 use Rattle.alterations.specs.Given.{Alterable}
 use Rattle.alterations.specs.Follows.{Altering, turnCoarse, turnFine}

@@ -27,8 +27,9 @@ use Rattle.algebra.proofs.Span.{rise-positive-right}
 use Rattle.algebra.proofs.Tiles.{rises-many}
 use Rattle.algebra.proofs.Fine.{Partitioned, riseCoarse, riseFine, low, high, spans-unique, low-spans, low-turn, high-turn}
 use Rattle.algebra.proofs.EmptiedCheck.{emptied-iff}
-use Rattle.alterations.specs.declared.Alteration.{Alteration}
-use Rattle.alterations.specs.Given.{Limits, altering}
+use Rattle.kinds.specs.declared.Alteration.{Alteration}
+use Rattle.kinds.specs.Limits.{Limits}
+use Rattle.alterations.specs.Given.{altering}
 use Rattle.alterations.specs.Short.{shortBy, short}
 use Rattle.alterations.proofs.Residues.{in-window}
 

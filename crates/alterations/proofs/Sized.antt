@@ -16,8 +16,8 @@ use Rattle.integers.proofs.Floor.{floor-eq, floor-lt}
 use Rattle.calendar.specs.Algebra.{changes}
 use Rattle.rows.specs.Found.{Within}
 use Rattle.rows.proofs.Numbers.{rise-bound}
-use Rattle.alterations.specs.declared.Alteration.{Alteration}
-use Rattle.alterations.specs.Given.{Limits}
+use Rattle.kinds.specs.declared.Alteration.{Alteration}
+use Rattle.kinds.specs.Limits.{Limits}
 
 -- x and y as natural numbers
 pub record Small (by : Alteration) : Type 0 where

@@ -18,12 +18,13 @@ use Rattle.calendar.specs.Questions.{given}
 use Rattle.rows.specs.Found.{Sound, Within}
 use Rattle.rows.proofs.Numbers.{numbers}
 use Rattle.rows.proofs.Bounds.{label-bound}
-use Rattle.alterations.specs.declared.Alteration.{Alteration}
+use Rattle.kinds.specs.declared.Alteration.{Alteration}
 use Rattle.alterations.specs.declared.Repeat.{Repeat}
 use Rattle.alterations.specs.declared.coarse.Begin.{Begin}
 use Rattle.alterations.specs.declared.ahead.Walk.{Walk}
 use Rattle.alterations.specs.declared.origin.Labelled.{Labelled}
-use Rattle.alterations.specs.Given.{Limits, Alterable}
+use Rattle.kinds.specs.Limits.{Limits}
+use Rattle.alterations.specs.Given.{Alterable}
 use Rattle.alterations.specs.Begins.{at, Begins}
 use Rattle.alterations.specs.Follows.{Altering, turnCoarse, turnFine, begins, Origin, Opens, Opened, Starts}
 use Rattle.alterations.proofs.Tiled.{coarse-low, fine-low, begins-is, begins-turns}

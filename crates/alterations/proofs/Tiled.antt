@@ -22,7 +22,7 @@ use Rattle.algebra.proofs.Tiles.{Tiling, holder, rises-many, tiles-ordered, ris
 use Rattle.algebra.proofs.Fine.{Partitioned, low, high, low-next}
 use Rattle.algebra.proofs.AlterSize.{coarseOf, fineOf}
 use Rattle.algebra.proofs.Altered.{coarse-positive, first-turn, altered-tiling}
-use Rattle.alterations.specs.declared.Alteration.{Alteration}
+use Rattle.kinds.specs.declared.Alteration.{Alteration}
 use Rattle.alterations.specs.Follows.{Altering, turnCoarse, turnFine, begins, Holds}
 
 -- ---- the definitions

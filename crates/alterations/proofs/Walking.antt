@@ -22,10 +22,10 @@ use Rattle.rows.specs.Found.{Sound, Within}
 use Rattle.rows.proofs.Numbers.{numbers}
 use Rattle.rows.proofs.Bounds.{label-bound}
 use Rattle.algebra.proofs.Fine.{low}
-use Rattle.alterations.specs.declared.Alteration.{Alteration}
+use Rattle.kinds.specs.declared.Alteration.{Alteration}
 use Rattle.alterations.specs.declared.coarse.Begin.{Begin}
 use Rattle.alterations.specs.declared.ahead.Walk.{Walk}
-use Rattle.alterations.specs.Given.{Limits}
+use Rattle.kinds.specs.Limits.{Limits}
 use Rattle.alterations.specs.Begins.{at, Begins}
 use Rattle.alterations.specs.Follows.{Altering, turnCoarse, turnFine, begins, Origin, Walks}
 use Rattle.alterations.proofs.Tiled.{coarse-low, begins-turns, begins-mono, begins-reflects, begins-step}

@@ -14,7 +14,7 @@ use Rattle.calendar.specs.Compute.{firstFine}
 use Rattle.calendar.specs.Checks.{poolLimit}
 use Rattle.rows.specs.Found.{Within}
 use Rattle.rows.specs.Cursor.{cursorAt}
-use Rattle.alterations.specs.declared.Alteration.{Alteration}
+use Rattle.kinds.specs.declared.Alteration.{Alteration}
 use Rattle.alterations.specs.declared.Repeat.{Repeat}
 use Rattle.alterations.specs.declared.Altered.{Altered}
 use Rattle.alterations.specs.declared.coarse.Begin.{Begin}

@@ -15,19 +15,10 @@ use Rattle.calendar.specs.Size as Size
 use Rattle.calendar.specs.Size.{turn, spanOf}
 use Rattle.calendar.specs.Compute.{result}
 use Rattle.calendar.specs.Checks.{poolLimit}
-use Rattle.calendar.specs.Table.{million}
 use Rattle.algebra.specs.Ready.{Ready}
-use Rattle.alterations.specs.declared.Alteration.{Alteration}
+use Rattle.kinds.specs.declared.Alteration.{Alteration}
+use Rattle.kinds.specs.Limits.{Limits}
 use Rattle.alterations.specs.declared.Repeat.{Repeat}
-
--- "x 1 to 1,000,000; y 1 to x; z within ±1,000,000"
-pub record Limits (by : Alteration) : Type 0 where
-  pub x-low : pos 1 ≤ℤ by .x
-  pub x-high : by .x ≤ℤ million
-  pub y-low : pos 1 ≤ℤ by .y
-  pub y-high : by .y ≤ℤ by .x
-  pub z-low : negℤ million ≤ℤ by .z
-  pub z-high : by .z ≤ℤ million
 
 -- the altering of b by a
 abbrev pub altering : Alteration → Row → Row → Operation Row

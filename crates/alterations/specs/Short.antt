@@ -11,9 +11,9 @@ use Rattle.calendar.specs.Lists.{first, last}
 use Rattle.calendar.specs.Granules.{meeting}
 use Rattle.calendar.specs.Checks.{poolLimit}
 use Rattle.rows.specs.Found.{Within}
-use Rattle.alterations.specs.declared.Alteration.{Alteration}
+use Rattle.kinds.specs.declared.Alteration.{Alteration}
 use Rattle.alterations.specs.declared.coarse.Begin.{Begin}
-use Rattle.alterations.specs.Given.{Limits}
+use Rattle.kinds.specs.Limits.{Limits}
 use Rattle.alterations.specs.Begins.{at, Begins}
 
 -- of a granule with so many fine ones, altering would leave none, and g divides i − y

@@ -11,7 +11,7 @@ ghost use Rattle.integers.specs.Floor.{floorMod};
 ghost use Rattle.calendar.specs.Questions.{given};
 ghost use Rattle.rows.specs.Found.{Sound};
 ghost use Rattle.alterations.specs.Follows.{Altering, begins, Holds, Walks};
-use super::Alteration;
+use kinds::Alteration;
 use super::coarse;
 use super::coarse::Begin;
 

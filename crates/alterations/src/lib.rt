@@ -10,6 +10,7 @@ ghost use Rattle.calendar.specs.Questions.{given};
 ghost use Rattle.rows.specs.Found.{Sound};
 ghost use Rattle.alterations.specs.Given.{Emptiable, Alterable};
 ghost use Rattle.alterations.specs.Follows.{Follows};
+use kinds::Alteration;
 use ahead::Walk;
 use behind::Place;
 
@@ -18,13 +19,6 @@ pub mod behind;
 pub mod coarse;
 mod emptying;
 mod origin;
-
-// Document 01's x, y and z: of x coarse granules in a row one, the y-th, gets z fine ones more.
-pub struct Alteration {
-    pub x: i64,
-    pub y: i64,
-    pub z: i64,
-}
 
 // After how many coarse granules the altering repeats, and by how many fine ones: document 01's n and D.
 pub struct Repeat {

@@ -17,7 +17,7 @@ use Rattle.granules.proofs.Tests.{true≢false, false-iff}
 use Rattle.algebra.proofs.Right.{right}
 use Rattle.algebra.proofs.Working.{unlabelled-iff}
 use Rattle.rows.proofs.Cells.{getD-any}
-use Rattle.alterations.specs.declared.Alteration.{Alteration}
+use Rattle.kinds.specs.declared.Alteration.{Alteration}
 use Rattle.alterations.specs.declared.Repeat.{Repeat}
 use Rattle.alterations.specs.declared.Altered.{Altered}
 use Rattle.alterations.specs.declared.ahead.Walk.{Walk}
@@ -26,10 +26,11 @@ use Rattle.alterations.specs.Given.{altering, Alterable, Written}
 use Rattle.alterations.specs.Follows.{Follows}
 use Rattle.alterations.proofs.Tiled.{altered-iff, holds-some}
 use Rattle.alterations.proofs.Followed.{follows-later}
-use Rattle.operands.specs.declared.Kind.the-variants.{Alter}
+use Rattle.kinds.specs.declared.Kind.the-variants.{Alter}
 use Rattle.filling.specs.declared.Filled.{Filled}
 use Rattle.filling.specs.declared.Filled.the-variants.{Labelled, Unlabelled, OutOfRange}
-use Rattle.filling.proofs.Turns.{Lent, rowOf, Turn, Fills, turn-written, turn-done, rows-stood}
+use Rattle.filling.specs.Placed.{Fills}
+use Rattle.filling.proofs.Turns.{Lent, rowOf, Turn, turn-written, turn-done, rows-stood}
 use Rattle.stretches.specs.declared.Reached.{Reached}
 use Rattle.stretches.specs.Stretch.{Stretched, Led}
 use Rattle.stretches.proofs.Turns.{stretch-on}

@@ -17,11 +17,11 @@ use Rattle.calendar.specs.Table.{million}
 use Rattle.calendar.specs.Questions.{given}
 use Rattle.rows.specs.Found.{Sound}
 use Rattle.rows.proofs.Numbers.{numbers}
-use Rattle.alterations.specs.declared.Alteration.{Alteration}
+use Rattle.kinds.specs.declared.Alteration.{Alteration}
 use Rattle.sizes.specs.declared.Turn.{Turn}
 use Rattle.sizes.specs.Stored.{Stored, Alterable}
-use Rattle.operands.specs.declared.Kind.the-variants.{Alter}
-use Rattle.operands.specs.Operations.{operationOf}
+use Rattle.kinds.specs.declared.Kind.the-variants.{Alter}
+use Rattle.kinds.specs.Operations.{operationOf}
 use Rattle.filling.specs.Given.{Given}
 
 up-mono : (x y : ℤ) → x ≤ℤ y → up x ≤ up y

@@ -14,7 +14,7 @@ use Rattle.calendar.specs.Meaning.{Row, meant, empty}
 use Rattle.calendar.specs.Lists.{onLabel}
 use Rattle.calendar.specs.Compute.{result, altered}
 use Rattle.rows.specs.Cursor.{cursorAt}
-use Rattle.alterations.specs.declared.Alteration.{Alteration}
+use Rattle.kinds.specs.declared.Alteration.{Alteration}
 use Rattle.alterations.specs.declared.Repeat.{Repeat}
 use Rattle.alterations.specs.declared.Altered.{Altered}
 use Rattle.alterations.specs.declared.ahead.Walk.{Walk}

@@ -1,29 +1,24 @@
 // Alter: each fine label gets the altered granule that has it.
 
 ghost use mathlib.Core.Path.{_≡_};
-ghost use mathlib.Core.Bool.{true};
-ghost use mathlib.Core.List.{_++_};
 ghost use Prim.Native.Nat.{_+_};
 ghost use lib.IntN.{pos};
-ghost use lib.ListN.{length, take, drop};
 ghost use Rattle.calendar.specs.Operation.{mapOperation};
 ghost use Rattle.calendar.specs.Questions.{given};
 ghost use Rattle.calendar.specs.Size as Size;
 ghost use Rattle.calendar.specs.Size.{turn};
 ghost use Rattle.alterations.specs.Given.{Alterable};
-ghost use Rattle.calendar.specs.Compute.{working};
-ghost use Rattle.calendar.specs.Checks.{labelsInRange};
-ghost use Rattle.operands.specs.declared.Kind.the-variants.{Alter};
-ghost use Rattle.operands.specs.Operations.{operationOf};
-ghost use Rattle.operands.specs.Stands.{rowIn};
+ghost use Rattle.kinds.specs.declared.Kind.the-variants.{Alter};
+ghost use Rattle.kinds.specs.Operations.{operationOf};
+ghost use Rattle.kinds.specs.Stands.{rowIn};
 ghost use Rattle.filling.specs.Given.{Given};
-ghost use Rattle.filling.specs.Placed.{Placed, filledAs};
-use alterations::Alteration;
+ghost use Rattle.filling.specs.Placed.{Placed, over, Fills};
+use kinds::Alteration;
 use alterations::Repeat;
 use calendar::Calendar;
 use filling::Filled;
 use filling::end_of;
-use operands::Operand;
+use kinds::Operand;
 use sizes::Turn;
 use stretches::fill_leading;
 use stretches::fill_stretch;
@@ -70,9 +65,7 @@ pub fn fill_alter(
 ) -> Filled
     requires { ⌜ Given (Alter by) (rowIn (now pool) a) (rowIn (now pool) b) ⌝ }
     requires { ⌜ Placed (Alter by) a b span at period (now pool) ⌝ }
-    ensures answer { λ r. ⌜ r ≡ filledAs (operationOf (Alter by) (rowIn (now (pool .entry)) a) (rowIn (now (pool .entry)) b)) ⌝ }
-    ensures length { λ r. ⌜ length (now (pool .exit)) ≡ length (now (pool .entry)) ⌝ }
-    ensures cells { λ r. ⌜ (labelsInRange (operationOf (Alter by) (rowIn (now (pool .entry)) a) (rowIn (now (pool .entry)) b)) ≡ true → now (pool .exit) ≡ take at (now (pool .entry)) ++ (working (operationOf (Alter by) (rowIn (now (pool .entry)) a) (rowIn (now (pool .entry)) b)) .cells ++ drop (at + period) (now (pool .entry)))) ⌝ }
+    ensures { λ r. ⌜ Fills (over (Alter by) (now (pool .entry)) a b) at period (now (pool .entry)) (now (pool .exit)) r ⌝ }
 {
     let a_start = a.start;
     let a_end = end_of(a, at);

@@ -1,21 +1,18 @@
 // Anchor: the last label of b up to the instant, wherever a has a label.
 
 ghost use mathlib.Core.Path.{_≡_};
-ghost use mathlib.Core.Bool.{true};
-ghost use mathlib.Core.List.{_++_};
 ghost use Prim.Native.Nat.{_+_};
 ghost use lib.IntN.{pos, _+ℤ_};
 ghost use lib.Signed.{_<ℤ_};
-ghost use lib.ListN.{length, take, drop};
-ghost use Rattle.calendar.specs.Checks.{labelsInRange, poolLimit};
-ghost use Rattle.calendar.specs.Compute.{result, working};
+ghost use Rattle.calendar.specs.Checks.{poolLimit};
+ghost use Rattle.calendar.specs.Compute.{result};
 ghost use Rattle.calendar.specs.Questions.{given};
 ghost use Rattle.rows.specs.Found.{found};
-ghost use Rattle.operands.specs.declared.Kind.the-variants.{Anchor};
-ghost use Rattle.operands.specs.Operations.{operationOf};
-ghost use Rattle.operands.specs.Stands.{rowIn};
+ghost use Rattle.kinds.specs.declared.Kind.the-variants.{Anchor};
+ghost use Rattle.kinds.specs.Operations.{operationOf};
+ghost use Rattle.kinds.specs.Stands.{rowIn};
 ghost use Rattle.filling.specs.Given.{Given};
-ghost use Rattle.filling.specs.Placed.{Placed, filledAs};
+ghost use Rattle.filling.specs.Placed.{Placed, over, Fills};
 ghost use Rattle.anchoring.specs.Scanning.{Anchors};
 use filling::Filled;
 use filling::any;
@@ -23,7 +20,7 @@ use filling::end_of;
 use filling::last_before;
 use filling::outcome;
 use filling::store;
-use operands::Operand;
+use kinds::Operand;
 use rows::Cursor;
 use rows::Found;
 
@@ -91,9 +88,7 @@ pub fn fill_anchor(
 ) -> Filled
     requires { ⌜ Given Anchor (rowIn (now pool) a) (rowIn (now pool) b) ⌝ }
     requires { ⌜ Placed Anchor a b span at period (now pool) ⌝ }
-    ensures answer { λ r. ⌜ r ≡ filledAs (operationOf Anchor (rowIn (now (pool .entry)) a) (rowIn (now (pool .entry)) b)) ⌝ }
-    ensures length { λ r. ⌜ length (now (pool .exit)) ≡ length (now (pool .entry)) ⌝ }
-    ensures cells { λ r. ⌜ (labelsInRange (operationOf Anchor (rowIn (now (pool .entry)) a) (rowIn (now (pool .entry)) b)) ≡ true → now (pool .exit) ≡ take at (now (pool .entry)) ++ (working (operationOf Anchor (rowIn (now (pool .entry)) a) (rowIn (now (pool .entry)) b)) .cells ++ drop (at + period) (now (pool .entry)))) ⌝ }
+    ensures { λ r. ⌜ Fills (over Anchor (now (pool .entry)) a b) at period (now (pool .entry)) (now (pool .exit)) r ⌝ }
 {
     let a_start = a.start;
     let a_end = end_of(a, at);

@@ -18,8 +18,8 @@ use Rattle.sizes.specs.Stored.{turnOf, Alterable, mostCoarse}
 use Rattle.sizes.specs.Altered.{rounds, alterDistance}
 use Rattle.sizes.proofs.Multiples.{fine-limits}
 use Rattle.alignment.specs.Pass.{Limited}
-use Rattle.alterations.specs.declared.Alteration.{Alteration}
-use Rattle.alterations.specs.Given.{Limits}
+use Rattle.kinds.specs.declared.Alteration.{Alteration}
+use Rattle.kinds.specs.Limits.{Limits}
 use Rattle.checks.specs.Shared.{turnFor}
 use Rattle.checks.proofs.Naturals.{up-mono, stored}
 

@@ -13,12 +13,13 @@ ghost use Rattle.calendar.specs.Questions.{given};
 ghost use Rattle.sizes.specs.Stored.{turnOf};
 ghost use Rattle.rows.specs.Found.{Sound};
 ghost use Rattle.alignment.specs.Pass.{Spanned, Limited};
-ghost use Rattle.alterations.specs.Given.{Limits, altering};
+ghost use Rattle.kinds.specs.Limits.{Limits};
+ghost use Rattle.alterations.specs.Given.{altering};
 ghost use Rattle.checks.specs.Admission.{admission, checkedOf};
 ghost use Rattle.checks.specs.Shared.{IsRoom, turnFor, fitted, alterExtent, behindSpan};
 use super::Checked;
 use super::Extent;
-use alterations::Alteration;
+use kinds::Alteration;
 use calendar::Refusal;
 use integers::Capped;
 

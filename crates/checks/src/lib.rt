@@ -8,11 +8,11 @@ ghost use Rattle.calendar.specs.Granules.{full};
 ghost use Rattle.calendar.specs.Checks.{poolLimit};
 ghost use Rattle.calendar.specs.Questions.{given};
 ghost use Rattle.rows.specs.Found.{Sound};
-ghost use Rattle.operands.specs.Operations.{operationOf, operands, Numbers, SoundFirst};
+ghost use Rattle.kinds.specs.Operations.{operationOf, operands, Numbers, SoundFirst};
 ghost use Rattle.checks.specs.Admission.{admission, checkedOf};
 ghost use Rattle.checks.specs.Shared.{IsRoom, wholeTurn, fitted};
 use calendar::Refusal;
-use operands::Kind;
+use kinds::Kind;
 use spanning::Alignment;
 
 mod altered;

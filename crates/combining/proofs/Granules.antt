@@ -19,7 +19,7 @@ use Rattle.granules.specs.Valid.{Valid}
 use Rattle.granules.proofs.Tests.{true≢false}
 use Rattle.rows.specs.declared.Cursor.{Cursor}
 use Rattle.rows.specs.Cursor.{cursorAt}
-use Rattle.operands.specs.declared.Kind.the-variants.{Combine}
+use Rattle.kinds.specs.declared.Kind.the-variants.{Combine}
 use Rattle.filling.proofs.Turns.{Lent, Turn, rowOf}
 use Rattle.stretches.specs.declared.Reached.{Reached}
 use Rattle.stretches.specs.Stretch.{Stretched, Led}

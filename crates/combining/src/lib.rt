@@ -3,28 +3,25 @@
 ghost use mathlib.Core.Path.{_≡_};
 ghost use mathlib.Core.Bool.{true};
 ghost use mathlib.Core.Option.{some};
-ghost use mathlib.Core.List.{_++_};
-ghost use Prim.Native.Nat.{_+_, _^_};
-ghost use lib.ListN.{length, take, drop};
+ghost use Prim.Native.Nat.{_^_};
 ghost use Rattle.calendar.specs.Meaning.{meant};
-ghost use Rattle.calendar.specs.Checks.{labelsInRange};
-ghost use Rattle.calendar.specs.Compute.{result, working};
+ghost use Rattle.calendar.specs.Compute.{result};
 ghost use Rattle.calendar.specs.Lists.{first};
 ghost use Rattle.calendar.specs.Granules.{granule};
 ghost use Rattle.calendar.specs.Questions.{given};
 ghost use Rattle.rows.specs.Found.{found, Sound, Within};
 ghost use Rattle.rows.specs.Cursor.{cursorAt};
-ghost use Rattle.operands.specs.declared.Kind.the-variants.{Combine};
-ghost use Rattle.operands.specs.Operations.{operationOf};
-ghost use Rattle.operands.specs.Stands.{rowIn};
+ghost use Rattle.kinds.specs.declared.Kind.the-variants.{Combine};
+ghost use Rattle.kinds.specs.Operations.{operationOf};
+ghost use Rattle.kinds.specs.Stands.{rowIn};
 ghost use Rattle.filling.specs.Given.{Given};
-ghost use Rattle.filling.specs.Placed.{Placed, filledAs};
+ghost use Rattle.filling.specs.Placed.{Placed, over, Fills};
 ghost use Rattle.combining.specs.Lying.{liesAt};
 use filling::Filled;
 use filling::any;
 use filling::end_of;
 use filling::outcome;
-use operands::Operand;
+use kinds::Operand;
 use rows::Cursor;
 use rows::Found;
 use stretches::cell_of;
@@ -137,9 +134,7 @@ pub fn fill_combine(
 ) -> Filled
     requires { ⌜ Given Combine (rowIn (now pool) a) (rowIn (now pool) b) ⌝ }
     requires { ⌜ Placed Combine a b span at period (now pool) ⌝ }
-    ensures answer { λ r. ⌜ r ≡ filledAs (operationOf Combine (rowIn (now (pool .entry)) a) (rowIn (now (pool .entry)) b)) ⌝ }
-    ensures length { λ r. ⌜ length (now (pool .exit)) ≡ length (now (pool .entry)) ⌝ }
-    ensures cells { λ r. ⌜ (labelsInRange (operationOf Combine (rowIn (now (pool .entry)) a) (rowIn (now (pool .entry)) b)) ≡ true → now (pool .exit) ≡ take at (now (pool .entry)) ++ (working (operationOf Combine (rowIn (now (pool .entry)) a) (rowIn (now (pool .entry)) b)) .cells ++ drop (at + period) (now (pool .entry)))) ⌝ }
+    ensures { λ r. ⌜ Fills (over Combine (now (pool .entry)) a b) at period (now (pool .entry)) (now (pool .exit)) r ⌝ }
 {
     let a_start = a.start;
     let a_end = end_of(a, at);

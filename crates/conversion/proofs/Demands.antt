@@ -7,7 +7,7 @@ use Prim.Native.Nat.{ℕ, _/_, _<_}
 use native.Mathlib.Omega.{arith}
 use lib.IntN.{ℤ}
 use lib.ListN.{length, getD}
-use Rattle.calendar.specs.Meaning.{Row, Calendar, Same, IsCalendar}
+use Rattle.calendar.specs.Meaning.{Row, Calendar, Same}
 use Rattle.calendar.specs.Table.{Outcome, outcome}
 use Rattle.calendar.specs.Table.Outcome.{rows}
 use Rattle.calendar.specs.Stored.{poolAfter, headingsAfter}
@@ -97,8 +97,8 @@ defined x = record {
 
 -- entries that match the two sides of a law have equal rows
 pub demand-3-laws : (x y : ConvertedTable) (k l : ℕ) → k < length (x .meanings) → l < length (y .meanings)
-    → (s s′ : Term) → Law s s′ → (v : ℕ → Calendar) → ((n : ℕ) → IsCalendar (v n))
+    → (s s′ : Term) → Law s s′ → (v : ℕ → Calendar)
     → Matches (x .table) (x .meanings) v s k → Matches (y .table) (y .meanings) v s′ l → rowOf x k ≡ rowOf y l
-demand-3-laws x y k l h h′ s s′ law v is m m′ =
+demand-3-laws x y k l h h′ s s′ law v m m′ =
     demand-3 x y k l h h′ .0
-    (laws.demand-3-rows (defined x) (defined y) k l h h′ .1 (laws.demand-3-laws (defined x) (defined y) k l h h′ s s′ law v is m m′))
+    (laws.demand-3-rows (defined x) (defined y) k l h h′ .1 (laws.demand-3-laws (defined x) (defined y) k l h h′ s s′ law v m m′))

@@ -18,11 +18,11 @@ use Rattle.algebra.specs.Ready.{Operands}
 use Rattle.algebra.proofs.Operations.{operands-weaken}
 use Rattle.algebra.proofs.Named.{named-operation}
 use Rattle.algebra.proofs.Steps.{judged-is}
-use Rattle.operands.specs.declared.Kind.{Kind}
-use Rattle.operands.specs.declared.Kind.the-variants.{Bottom, Group, Shift, Alter, Combine, Anchor, Select, ByLabels, Renumber}
-use Rattle.operands.specs.declared.Operand.{Operand}
-use Rattle.operands.specs.Operations.{operationOf, operands, SoundFirst}
-use Rattle.operands.specs.Stands.{rowIn}
+use Rattle.kinds.specs.declared.Kind.{Kind}
+use Rattle.kinds.specs.declared.Kind.the-variants.{Bottom, Group, Shift, Alter, Combine, Anchor, Select, ByLabels, Renumber}
+use Rattle.kinds.specs.declared.Operand.{Operand}
+use Rattle.kinds.specs.Operations.{operationOf, operands, SoundFirst}
+use Rattle.kinds.specs.Stands.{rowIn}
 use Rattle.naming.specs.declared.Named.{Named}
 use Rattle.naming.specs.Naming.{Names}
 use Rattle.entering.specs.declared.Entry as Code

@@ -13,8 +13,8 @@ use mir.ValLaws.{toZ-ofZ}
 use Rattle.integers.specs.Parts.{up}
 use Rattle.calendar.specs.Meaning.{Row}
 use Rattle.calendar.specs.Questions.{given}
-use Rattle.operands.specs.declared.Operand.{Operand}
-use Rattle.operands.specs.Stands.{end, rowIn}
+use Rattle.kinds.specs.declared.Operand.{Operand}
+use Rattle.kinds.specs.Stands.{end, rowIn}
 use Rattle.entries.proofs.Naturals.{natAbs-up}
 
 -- its numbers fit their width

@@ -20,8 +20,8 @@ use Rattle.calendar.specs.Questions.{given}
 use Rattle.granules.specs.Valid.{Valid}
 use Rattle.granules.proofs.Least.{least-shorter}
 use Rattle.granules.proofs.Sound.{sound-valid, sound-limits}
-use Rattle.operands.specs.declared.Operand.{Operand}
-use Rattle.operands.specs.Stands.{rowIn}
+use Rattle.kinds.specs.declared.Operand.{Operand}
+use Rattle.kinds.specs.Stands.{rowIn}
 use Rattle.entering.specs.Entering.{Worked, Added}
 use Rattle.entries.proofs.Naturals.{natAbs-up}
 use Rattle.entering.proofs.Cells.{take-part}

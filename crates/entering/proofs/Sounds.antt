@@ -17,9 +17,9 @@ use Rattle.calendar.specs.Operation.{mapOperation}
 use Rattle.calendar.specs.Size.{turn, span, spanOf}
 use Rattle.calendar.specs.Checks.{sound}
 use Rattle.algebra.specs.Ready.{Operands, Factor}
-use Rattle.operands.specs.declared.Kind.{Kind}
-use Rattle.operands.specs.declared.Kind.the-variants.{Bottom, Group, Shift, Alter, Combine, Anchor, Select, ByLabels, Renumber}
-use Rattle.operands.specs.Operations.{operationOf, operands, Numbers, SoundFirst}
+use Rattle.kinds.specs.declared.Kind.{Kind}
+use Rattle.kinds.specs.declared.Kind.the-variants.{Bottom, Group, Shift, Alter, Combine, Anchor, Select, ByLabels, Renumber}
+use Rattle.kinds.specs.Operations.{operationOf, operands, Numbers, SoundFirst}
 
 positive : (x : ℤ) → pos 1 ≤ℤ x → 1 ≤ up x
 positive x h = up-pos {z = x} (h ∴ simp ints (omega arith))

@@ -13,7 +13,7 @@ use Rattle.calendar.specs.Checks.{sound}
 use Rattle.calendar.specs.Table.{bottomRow}
 use Rattle.calendar.specs.Stored.{joined, headingsFrom}
 use Rattle.granules.proofs.Sound.{sound-valid}
-use Rattle.operands.specs.Stands.{end, rowIn}
+use Rattle.kinds.specs.Stands.{end, rowIn}
 use Rattle.entering.specs.Stores.{Stores}
 use Rattle.entering.specs.Entering.{operandOf}
 

@@ -26,9 +26,9 @@ use Rattle.granules.proofs.Tests.{leb-iff}
 use Rattle.algebra.specs.Ready.{Operands, Ready}
 use Rattle.checks.specs.declared.Extent.{Extent}
 use Rattle.checks.specs.Admission.{admission}
-use Rattle.operands.specs.declared.Kind.{Kind}
-use Rattle.operands.specs.declared.Operand.{Operand}
-use Rattle.operands.specs.Stands.{rowIn}
+use Rattle.kinds.specs.declared.Kind.{Kind}
+use Rattle.kinds.specs.declared.Operand.{Operand}
+use Rattle.kinds.specs.Stands.{rowIn}
 use Rattle.filling.specs.Given.{Given}
 use Rattle.filling.specs.Placed.{Placed, filledAs}
 use Rattle.filling.specs.declared.Filled.{Filled}

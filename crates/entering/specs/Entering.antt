@@ -16,10 +16,10 @@ use Rattle.calendar.specs.Reply.Reply.{refused, answer}
 use Rattle.calendar.specs.Table.{named}
 use Rattle.entries.specs.declared.Entry as Entries
 use Rattle.entries.specs.Entries.{entryOf}
-use Rattle.operands.specs.declared.Kind.{Kind}
-use Rattle.operands.specs.declared.Operand.{Operand}
-use Rattle.operands.specs.Operations.{operationOf, operands, Numbers, SoundFirst}
-use Rattle.operands.specs.Stands.{end, rowIn}
+use Rattle.kinds.specs.declared.Kind.{Kind}
+use Rattle.kinds.specs.declared.Operand.{Operand}
+use Rattle.kinds.specs.Operations.{operationOf, operands, Numbers, SoundFirst}
+use Rattle.kinds.specs.Stands.{end, rowIn}
 use Rattle.entering.specs.declared.Entry.{Entry}
 use Rattle.entering.specs.declared.Entry.the-variants.{Refused, Ends}
 use Rattle.entering.specs.Stores.{Stores}

@@ -14,8 +14,8 @@ ghost use Rattle.calendar.specs.Least.{least};
 ghost use Rattle.calendar.specs.Reply.Reply.{answer};
 ghost use Rattle.calendar.specs.Table.{converted, judged};
 ghost use Rattle.entries.specs.Entries.{entryOf};
-ghost use Rattle.operands.specs.Operations.{operands, Numbers, SoundFirst};
-ghost use Rattle.operands.specs.Stands.{end, rowIn};
+ghost use Rattle.kinds.specs.Operations.{operands, Numbers, SoundFirst};
+ghost use Rattle.kinds.specs.Stands.{end, rowIn};
 ghost use Rattle.checks.specs.Admission.{admission, checkedOf};
 ghost use Rattle.entering.specs.Stores.{Stores};
 ghost use Rattle.entering.specs.Entering.{operandOf, over, NamedDue, Before, Enterable, Worked, Added, Became};
@@ -23,8 +23,8 @@ use calendar::Refusal;
 use checks::Checked;
 use checks::Extent;
 use filling::Filled;
-use operands::Kind;
-use operands::Operand;
+use kinds::Kind;
+use kinds::Operand;
 
 // How many numbers a heading has: start, period and distance.
 pub const HEADING_LENGTH: usize = 3;

@@ -16,8 +16,8 @@ use Rattle.integers.specs.Parts.{up}
 use Rattle.calendar.specs.Meaning.{Row}
 use Rattle.calendar.specs.Questions.{given}
 use Rattle.rows.proofs.Cells.{cast-nat}
-use Rattle.operands.specs.declared.Operand.{Operand}
-use Rattle.operands.specs.Stands.{end, rowIn}
+use Rattle.kinds.specs.declared.Operand.{Operand}
+use Rattle.kinds.specs.Stands.{end, rowIn}
 
 -- ---- the rows of the operands
 

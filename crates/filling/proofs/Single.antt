@@ -14,9 +14,9 @@ use Rattle.calendar.specs.Size.{turn, spanOf}
 use Rattle.calendar.specs.Compute.{result}
 use Rattle.calendar.specs.Checks.{sound, poolLimit}
 use Rattle.granules.proofs.Sound.{sound-valid, sound-limits}
-use Rattle.operands.specs.declared.Kind.{Kind}
-use Rattle.operands.specs.declared.Kind.the-variants.{Bottom, Group, Shift, Alter, Combine, Anchor, Select, ByLabels, Renumber}
-use Rattle.operands.specs.Operations.{operationOf, operands}
+use Rattle.kinds.specs.declared.Kind.{Kind}
+use Rattle.kinds.specs.declared.Kind.the-variants.{Bottom, Group, Shift, Alter, Combine, Anchor, Select, ByLabels, Renumber}
+use Rattle.kinds.specs.Operations.{operationOf, operands}
 use Rattle.filling.specs.Given.{Given}
 
 -- the span of a row with itself is its period

@@ -12,8 +12,8 @@ use mir.Val.{toZ}
 use Rattle.calendar.specs.Meaning.{Row}
 use Rattle.calendar.specs.Compute.{result}
 use Rattle.calendar.specs.Checks.{poolLimit}
-use Rattle.operands.specs.declared.Kind.{Kind}
-use Rattle.operands.specs.Operations.{operationOf}
+use Rattle.kinds.specs.declared.Kind.{Kind}
+use Rattle.kinds.specs.Operations.{operationOf}
 use Rattle.filling.specs.Given.{Given}
 use Rattle.filling.proofs.Turns.{Lent, Turn, rowOf, rows-kept, rows-stood, turn-instant, turn-below, turn-given}
 

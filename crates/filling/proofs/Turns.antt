@@ -22,22 +22,17 @@ use Rattle.calendar.specs.Compute.{result, working, cellOf}
 use Rattle.calendar.specs.Checks.{inRange, labelsInRange, poolLimit}
 use Rattle.calendar.specs.Questions.{given}
 use Rattle.granules.proofs.Tests.{true≢false}
-use Rattle.operands.specs.declared.Kind.{Kind}
-use Rattle.operands.specs.declared.Operand.{Operand}
-use Rattle.operands.specs.Operations.{operationOf, operands}
-use Rattle.operands.specs.Stands.{end, rowIn}
+use Rattle.kinds.specs.declared.Kind.{Kind}
+use Rattle.kinds.specs.declared.Operand.{Operand}
+use Rattle.kinds.specs.Operations.{operationOf, operands}
+use Rattle.kinds.specs.Stands.{end, rowIn}
 use Rattle.filling.specs.declared.Filled.{Filled}
 use Rattle.filling.specs.declared.Filled.the-variants.{Labelled, Unlabelled, OutOfRange}
 use Rattle.filling.specs.Given.{Given, Written}
-use Rattle.filling.specs.Placed.{Placed, filledAs}
+use Rattle.filling.specs.Placed.{Placed, filledAs, Fills}
 use Rattle.filling.proofs.Cells.{same-rows, part-kept}
 use Rattle.filling.proofs.Single.{given-twice, operation-over}
 use Rattle.filling.proofs.Working.{Writes, writes-none, writes-length, new-is, writes-written, writes-more, writes-all, writes-labelled, writes-unlabelled, out-of-range, filled-out}
-
--- what a loop ensures, of the cells from `at` on
-abbrev pub Fills : Operation Row → ℕ → ℕ → List ℤ → List ℤ → Filled → Type 0
-Fills o at period old new r =
-    (r ≡ filledAs o) × ((length new ≡ length old) × (labelsInRange o ≡ true → new ≡ take at old ++ (working o .cells ++ drop (at + period) old)))
 
 -- the cells of a row, from the first to the one behind the last, with its period and its distance
 pub record Lent : Type 0 where

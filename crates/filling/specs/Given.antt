@@ -10,8 +10,8 @@ use Rattle.calendar.specs.Size.{turn, spanOf}
 use Rattle.calendar.specs.Compute.{result}
 use Rattle.calendar.specs.Checks.{poolLimit}
 use Rattle.algebra.specs.Ready.{Ready}
-use Rattle.operands.specs.declared.Kind.{Kind}
-use Rattle.operands.specs.Operations.{operationOf, operands, Numbers, SoundFirst}
+use Rattle.kinds.specs.declared.Kind.{Kind}
+use Rattle.kinds.specs.Operations.{operationOf, operands, Numbers, SoundFirst}
 
 -- an operation that has passed checks 6, 7, 9 and 10, over rows of a pool
 pub record Given (k : Kind) (a b : Row) : Type 0 where

@@ -1,7 +1,7 @@
 -- Where a working row is filled in, and what its labels are.
 use mathlib.Core.Path.{_≡_}
-use mathlib.Core.Bool.{cond}
-use mathlib.Core.List.{List}
+use mathlib.Core.Bool.{true, cond}
+use mathlib.Core.List.{List, _++_}
 use Prim.Native.Nat.{ℕ, _+_, _≤_}
 use lib.IntN.{ℤ, pos}
 use lib.Signed.{_≤ℤ_}
@@ -10,11 +10,12 @@ use Rattle.calendar.specs.Meaning.{Row}
 use Rattle.calendar.specs.Operation.{Operation, mapOperation}
 use Rattle.calendar.specs.Size as Size
 use Rattle.calendar.specs.Size.{turn, size}
+use Rattle.calendar.specs.Compute.{working}
 use Rattle.calendar.specs.Checks.{unlabelled, labelsInRange, poolLimit}
-use Rattle.operands.specs.declared.Kind.{Kind}
-use Rattle.operands.specs.declared.Operand.{Operand}
-use Rattle.operands.specs.Operations.{operationOf}
-use Rattle.operands.specs.Stands.{end, rowIn}
+use Rattle.kinds.specs.declared.Kind.{Kind}
+use Rattle.kinds.specs.declared.Operand.{Operand}
+use Rattle.kinds.specs.Operations.{operationOf}
+use Rattle.kinds.specs.Stands.{end, rowIn}
 use Rattle.filling.specs.declared.Filled.{Filled}
 use Rattle.filling.specs.declared.Filled.the-variants.{Labelled, Unlabelled, OutOfRange}
 
@@ -32,3 +33,12 @@ pub record Placed (k : Kind) (a b : Operand) (span : ℤ) (at period : ℕ) (poo
 -- checks 12 and 11: some instant has a label, and all labels are within the limits
 abbrev pub filledAs : Operation Row → Filled
 filledAs o = cond (unlabelled o) Unlabelled (cond (labelsInRange o) Labelled OutOfRange)
+
+-- the operation of the kind over rows of the pool
+abbrev pub over : Kind → List ℤ → Operand → Operand → Operation Row
+over kind pool a b = operationOf kind (rowIn pool a) (rowIn pool b)
+
+-- what a loop leaves: its answer, and in the pool the working row from the cell `at` on, unless a label is outside the limits
+abbrev pub Fills : Operation Row → ℕ → ℕ → List ℤ → List ℤ → Filled → Type 0
+Fills o at period old new r =
+    (r ≡ filledAs o) × ((length new ≡ length old) × (labelsInRange o ≡ true → new ≡ take at old ++ (working o .cells ++ drop (at + period) old)))

@@ -11,10 +11,10 @@ ghost use Rattle.calendar.specs.Compute.{cellOf, anchored};
 ghost use Rattle.calendar.specs.Checks.{inRange};
 ghost use Rattle.calendar.specs.Questions.{given};
 ghost use Rattle.rows.specs.Found.{found, Sound};
-ghost use Rattle.operands.specs.Stands.{end};
+ghost use Rattle.kinds.specs.Stands.{end};
 ghost use Rattle.filling.specs.declared.Filled.the-variants.{Labelled, Unlabelled};
 use calendar::Calendar;
-use operands::Operand;
+use kinds::Operand;
 use rows::Found;
 
 // What the labels of a working row are.

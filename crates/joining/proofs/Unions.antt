@@ -14,9 +14,9 @@ use Rattle.granules.specs.Valid.{Valid}
 use Rattle.granules.proofs.Tests.{none≢some, false-iff}
 use Rattle.granules.proofs.Instants.{has-iff}
 use Rattle.algebra.specs.Ready.{Ready}
-use Rattle.operands.specs.declared.SetOperation.{SetOperation}
-use Rattle.operands.specs.declared.SetOperation.the-variants.{Union, Intersection, Difference}
-use Rattle.operands.specs.Operations.{setOf}
+use Rattle.kinds.specs.declared.SetOperation.{SetOperation}
+use Rattle.kinds.specs.declared.SetOperation.the-variants.{Union, Intersection, Difference}
+use Rattle.kinds.specs.Operations.{setOf}
 use Rattle.joining.specs.Joined.{joinedLabel}
 
 module _ (a b : Row) (v : Valid b) (c : Compatible (meant a) (meant b)) (t : ℤ) where

@@ -1,8 +1,8 @@
 -- What a set operation makes of the two labels of an instant. Where the operands are compatible, it is its result there.
 use mathlib.Core.Option.{Option, none, some}
 use lib.IntN.{ℤ}
-use Rattle.operands.specs.declared.SetOperation.{SetOperation}
-use Rattle.operands.specs.declared.SetOperation.the-variants.{Union, Intersection, Difference}
+use Rattle.kinds.specs.declared.SetOperation.{SetOperation}
+use Rattle.kinds.specs.declared.SetOperation.the-variants.{Union, Intersection, Difference}
 
 abbrev pub joinedLabel : SetOperation → Option ℤ → Option ℤ → Option ℤ
 joinedLabel Union (some j) y = some j

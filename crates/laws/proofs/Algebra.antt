@@ -1,5 +1,6 @@
 -- Each law of document 01 holds in the algebra: where both sides are defined, they are the same calendar.
-use mathlib.Core.Path.{sym, _∙_, subst, fun-ext}
+use mathlib.Core.Path.{refl, sym, _∙_, subst, fun-ext}
+use mathlib.Core.Logic.{inl, inr}
 use Prim.Native.Nat.{ℕ, _*_}
 use lib.IntN.{pos, negℤ, _+ℤ_, _-ℤ_, _*ℤ_}
 use Rattle.calendar.specs.Meaning.{Calendar, Same, IsCalendar}
@@ -8,7 +9,7 @@ use Rattle.calendar.specs.Operation.SetOperation.{union, intersection, differen
 use Rattle.calendar.specs.Operation.Unary.{group, shift, renumber}
 use Rattle.calendar.specs.Operation.Binary.{alter, combine, anchor, by-labels}
 use Rattle.calendar.specs.Algebra.{Result}
-use Rattle.laws.specs.Terms.{Term, Value}
+use Rattle.laws.specs.Terms.{Term, Value, Occurs}
 use Rattle.laws.specs.Laws.{Law, a, b, c, _∪_, _∩_, _∖_}
 use Rattle.laws.proofs.Values.{result-unique, unary-at, left-at, right-at, binary-at}
 use Rattle.laws.proofs.Pointwise
@@ -17,7 +18,7 @@ use Rattle.laws.proofs.SelfOperands
 use Rattle.laws.proofs.Alter
 use Rattle.laws.proofs.Renumber
 
-pub law-holds : (l r : Term) → Law l r → (v : ℕ → Calendar) → ((n : ℕ) → IsCalendar (v n)) → (x y : Calendar) → Value v l x → Value v r y → Same x y
+pub law-holds : (l r : Term) → Law l r → (v : ℕ → Calendar) → ((n : ℕ) → Occurs n l → IsCalendar (v n)) → (x y : Calendar) → Value v l x → Value v r y → Same x y
 law-holds l r (Law.shift-shift s t) v is x y X Y =
     let (p, P, D) = X in
     Pointwise.shift-shift s t (v 0) p x y (unary-at v (shift s) 0 P .result) (D .result) (unary-at v (shift (s +ℤ t)) 0 Y .result)
@@ -25,7 +26,7 @@ law-holds l r Law.shift-zero v is x y X Y = λ t. Pointwise.shift-zero (v 0) x (
 law-holds l r Law.group-one v is x y X Y = λ t. Pointwise.group-one (v 0) x (unary-at v (group 1) 0 X .result) t ∙ sym (Y t)
 law-holds l r (Law.alter-zero m n) v is x y X Y = λ t.
     let D = binary-at v (alter m n (pos 0)) 0 1 X in
-    Alter.alter-zero m n (v 0) (v 1) x (D .full .0) (D .full .1) (is 0 .ordered) (is 1 .ordered) (D .aligned) (D .result) t ∙ sym (Y t)
+    Alter.alter-zero m n (v 0) (v 1) x (D .full .0) (D .full .1) (is 0 (inl refl) .ordered) (is 1 (inr refl) .ordered) (D .aligned) (D .result) t ∙ sym (Y t)
 law-holds l r (Law.group-group m n) v is x y X Y =
     let (p, P, D) = X in
     Pointwise.group-group m n (v 0) p x y (unary-at v (group m) 0 P .result) (D .result) (unary-at v (group (m * n)) 0 Y .result)
@@ -42,7 +43,7 @@ law-holds l r (Law.renumber-renumber m n) v is x y X Y =
     let (q, Q, E) = Y in
     let F = unary-at v (renumber m) 0 P in
     let e = result-unique (Operation.unary (renumber m) (v 0)) q p (unary-at v (renumber m) 0 Q .result) (F .result) in
-    Renumber.renumber-renumber m n (v 0) p x y (is 0) (F .calendar) (F .result) (D .result)
+    Renumber.renumber-renumber m n (v 0) p x y (is 0 refl) (F .calendar) (F .result) (D .result)
     (subst (λ (q : Calendar). Result (Operation.unary (shift (pos 1 -ℤ n)) q) y) (fun-ext e) (E .result))
 law-holds l r Law.union-comm v is x y X Y =
     Sets.union-comm (v 0) (v 1) x y (binary-at v (by-labels union) 0 1 X .result) (binary-at v (by-labels union) 1 0 Y .result)

@@ -1,5 +1,6 @@
 -- Demand 3 over the definitions: answered entries mean the same calendar exactly if their rows are equal; so every law holds on the stored rows.
-use mathlib.Core.Logic.{_↔_}
+use mathlib.Core.Path.{sym, _∙_, ap, subst, fun-ext}
+use mathlib.Core.Logic.{_↔_, inl, inr}
 use mathlib.Core.List.{List}
 use Prim.Native.Nat.{ℕ, _<_}
 use native.Mathlib.Omega.{arith}
@@ -11,7 +12,7 @@ use Rattle.calendar.specs.Table.{entryAt}
 use Rattle.algebra.specs.TableMeaning.{Meant}
 use Rattle.algebra.proofs.Named.{named-operation}
 use Rattle.granules.proofs.Equal.{equal-rows}
-use Rattle.laws.specs.Terms.{Term, Value}
+use Rattle.laws.specs.Terms.{Term, Value, Occurs}
 use Rattle.laws.specs.Terms.Term.{operand, bottom, unary, binary}
 use Rattle.laws.specs.Laws.{Law}
 use Rattle.laws.specs.Matches.{Matches, calendarAt, EqualRows, rowAt}
@@ -42,12 +43,27 @@ module _ (t : List ℤ) (ms : List Meant) (defined : (k : ℕ) → k < length ms
       let l = named-operation k (entryAt t k) o e .1 in
       (calendarAt ms i, calendarAt ms j, matches-value s i (omega arith) m, matches-value s′ j (omega arith) m′, defined k h o e)
 
+-- each operand that stands in a term with a matching entry is a calendar
+module _ (t : List ℤ) (ms : List Meant) (calendar : (k : ℕ) → k < length ms → IsCalendar (calendarAt ms k)) (v : ℕ → Calendar) where
+  matches-calendar : (s : Term) (k : ℕ) → k < length ms → Matches t ms v s k → (n : ℕ) → Occurs n s → IsCalendar (v n)
+  matches-calendar (operand m) k h e n o = subst IsCalendar (fun-ext e ∙ ap v (sym o)) (calendar k h)
+  matches-calendar bottom k h m n o = absurd o
+  matches-calendar (unary u s) k h (i, e, m) n o =
+      let l = named-operation k (entryAt t k) (Operation.unary u i) e .1 in
+      matches-calendar s i (omega arith) m n o
+  matches-calendar (binary b s s′) k h (i, j, e, m, m′) n (inl o) =
+      let l = named-operation k (entryAt t k) (Operation.binary b i j) e .1 in
+      matches-calendar s i (omega arith) m n o
+  matches-calendar (binary b s s′) k h (i, j, e, m, m′) n (inr o) =
+      let l = named-operation k (entryAt t k) (Operation.binary b i j) e .1 in
+      matches-calendar s′ j (omega arith) m′ n o
+
 -- (b) entries that match the two sides of a law have equal rows
 pub demand-3-laws : (x y : Answered) (k l : ℕ) → k < length (x .meanings) → l < length (y .meanings)
-    → (s s′ : Term) → Law s s′ → (v : ℕ → Calendar) → ((n : ℕ) → IsCalendar (v n))
+    → (s s′ : Term) → Law s s′ → (v : ℕ → Calendar)
     → Matches (x .table) (x .meanings) v s k → Matches (y .table) (y .meanings) v s′ l → EqualRows (rowAt (x .stored) k) (rowAt (y .stored) l)
-demand-3-laws x y k l h h′ s s′ law v is m m′ =
+demand-3-laws x y k l h h′ s s′ law v m m′ =
     demand-3-rows x y k l h h′ .0
-    (law-holds s s′ law v is (calendarAt (x .meanings) k) (calendarAt (y .meanings) l)
+    (law-holds s s′ law v (matches-calendar (x .table) (x .meanings) (λ k h. stored-represents x k h .calendar) v s k h m) (calendarAt (x .meanings) k) (calendarAt (y .meanings) l)
     (matches-value (x .table) (x .meanings) (table-defined (x .means)) v s k h m)
     (matches-value (y .table) (y .meanings) (table-defined (y .means)) v s′ l h′ m′))

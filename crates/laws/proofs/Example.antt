@@ -13,7 +13,7 @@ use Rattle.laws.specs.Terms.{Term}
 use Rattle.laws.specs.Laws.{Law}
 use Rattle.laws.specs.Matches.{calendarAt, EqualRows, rowAt}
 use Rattle.laws.specs.Example.{exampleHeadings, examplePool, rowsIn, Side, Example, Applies}
-use Rattle.laws.proofs.Answered.{stored-length, stored-represents, answered}
+use Rattle.laws.proofs.Answered.{stored-length, answered}
 use Rattle.laws.proofs.Demand3.{demand-3-rows}
 
 -- ---- rows by their numbers
@@ -90,7 +90,6 @@ applies {rs} {r} e =
       k-answered = omega (arith, stored-length x, p .entry-in);
       l-answered = omega (arith, stored-length y, q .entry-in);
       v = v;
-      calendars = λ n. stored-represents x (entryOf (e .left) n) (operand-x n) .calendar;
       left = e .left .matches (x .meanings) v (λ n t. refl);
       right = e .right .matches (y .meanings) v same;
     }

@@ -5,7 +5,7 @@ use mathlib.Core.List.{List, [], _∷_, map}
 use Prim.Native.Nat.{ℕ, _<_}
 use lib.IntN.{ℤ}
 use lib.ListN.{length, getD, getElem?}
-use Rattle.calendar.specs.Meaning.{Row, Calendar, Same, IsCalendar}
+use Rattle.calendar.specs.Meaning.{Row, Calendar, Same}
 use Rattle.calendar.specs.Table.{outcome}
 use Rattle.calendar.specs.Table.Outcome.{refusedAt, rows}
 use Rattle.algebra.specs.TableMeaning.{Meant}
@@ -48,6 +48,5 @@ pub record Applies {s s′ : Term} (law : Law s s′) : Type 0 where
   pub k-answered : k < length (x .meanings)
   pub l-answered : l < length (y .meanings)
   pub v : ℕ → Calendar
-  pub calendars : (n : ℕ) → IsCalendar (v n)
   pub left : Matches (x .table) (x .meanings) v s k
   pub right : Matches (y .table) (y .meanings) v s′ l

@@ -1,4 +1,6 @@
 -- Terms of the algebra, and what it is for a calendar to be the value of one.
+use mathlib.Core.Path.{_≡_}
+use mathlib.Core.Logic.{_⊎_}
 use Prim.Native.Nat.{ℕ}
 use Rattle.calendar.specs.Meaning.{Calendar, Same, IsCalendar}
 use Rattle.calendar.specs.Operation.{Unary, Binary, Operation}
@@ -11,6 +13,13 @@ pub data Term : Type 0 where
   bottom : Term
   unary : Unary → Term → Term
   binary : Binary → Term → Term → Term
+
+-- the operand n stands in the term
+abbrev pub Occurs : ℕ → Term → Type 0
+Occurs n (operand m) = n ≡ m
+Occurs n bottom = ⊥
+Occurs n (unary u s) = Occurs n s
+Occurs n (binary o s s′) = Occurs n s ⊎ Occurs n s′
 
 -- an operation that is allowed, with its result
 pub record Defined (o : Operation Calendar) (c : Calendar) : Type 0 where

@@ -19,13 +19,13 @@ use Rattle.calendar.specs.Operation.Binary.{alter, select}
 use Rattle.calendar.specs.Operation.Operation.{unary, binary}
 use Rattle.calendar.specs.Reply.Reply.{answer}
 use Rattle.calendar.specs.Table.{named}
-use Rattle.selections.specs.declared.Pick.{Pick}
-use Rattle.selections.specs.declared.Selection.the-variants.{Down, Up, Intersecting}
-use Rattle.alterations.specs.declared.Alteration.{Alteration}
+use Rattle.kinds.specs.declared.Pick.{Pick}
+use Rattle.kinds.specs.declared.Selection.the-variants.{Down, Up, Intersecting}
+use Rattle.kinds.specs.declared.Alteration.{Alteration}
 use Rattle.entries.specs.declared.Entry.{Entry}
 use Rattle.entries.specs.Entries.{entryOf, kindOf}
-use Rattle.operands.specs.declared.SetOperation.the-variants.{Union, Intersection, Difference}
-use Rattle.operands.specs.declared.Kind.the-variants.{Bottom, Group, Shift, Alter, Combine, Anchor, Select, ByLabels, Renumber}
+use Rattle.kinds.specs.declared.SetOperation.the-variants.{Union, Intersection, Difference}
+use Rattle.kinds.specs.declared.Kind.the-variants.{Bottom, Group, Shift, Alter, Combine, Anchor, Select, ByLabels, Renumber}
 use Rattle.naming.specs.Naming.{KindOf}
 use Rattle.naming.proofs.Passing.{factor-limits, label-limits, altering-limits, picking-limits, passed, passed-at}
 

@@ -17,10 +17,10 @@ use Rattle.calendar.specs.Table.{Entry, million, zero?, earlier, named, factor,
 use Rattle.granules.proofs.Tests.{true≢false, and-iff, or-iff, not-iff, false-iff, leZ-iff, ltb-iff, leb-iff, equal-iff}
 use Rattle.algebra.proofs.Operations.{require-answer}
 use Rattle.algebra.proofs.Working.{inRange-iff}
-use Rattle.selections.specs.declared.Pick.{Pick}
-use Rattle.selections.specs.Memos.{PickLimits}
-use Rattle.alterations.specs.declared.Alteration.{Alteration}
-use Rattle.alterations.specs.Given.{Limits}
+use Rattle.kinds.specs.declared.Pick.{Pick}
+use Rattle.kinds.specs.Limits.{PickLimits}
+use Rattle.kinds.specs.declared.Alteration.{Alteration}
+use Rattle.kinds.specs.Limits.{Limits}
 use Rattle.entries.specs.Entries.{kindOf}
 
 -- ---- the limits of the numbers

@@ -15,9 +15,9 @@ use Rattle.calendar.specs.Table.{named}
 use Rattle.entries.specs.declared.Entry.{Entry}
 use Rattle.entries.specs.Entries.{entryOf}
 use Rattle.entries.proofs.Fields.{Fields}
-use Rattle.operands.specs.declared.Kind.{Kind}
-use Rattle.operands.specs.declared.Kind.the-variants.{Bottom, Group, Shift, Alter, Combine, Anchor, Select, ByLabels, Renumber}
-use Rattle.operands.specs.Operations.{operationOf, operands}
+use Rattle.kinds.specs.declared.Kind.{Kind}
+use Rattle.kinds.specs.declared.Kind.the-variants.{Bottom, Group, Shift, Alter, Combine, Anchor, Select, ByLabels, Renumber}
+use Rattle.kinds.specs.Operations.{operationOf, operands}
 use Rattle.naming.specs.Naming.{KindOf, secondOf, Names}
 use Rattle.entries.proofs.Naturals.{natAbs-up}
 use Rattle.naming.proofs.Passing.{Passed, passed}

@@ -8,8 +8,8 @@ use Rattle.calendar.specs.Reply.Reply.{answer}
 use Rattle.calendar.specs.Table.{named}
 use Rattle.entries.specs.declared.Entry.{Entry}
 use Rattle.entries.specs.Entries.{entryOf}
-use Rattle.operands.specs.declared.Kind.{Kind}
-use Rattle.operands.specs.Operations.{operationOf, operands, Numbers}
+use Rattle.kinds.specs.declared.Kind.{Kind}
+use Rattle.kinds.specs.Operations.{operationOf, operands, Numbers}
 use Rattle.naming.specs.declared.Named.{Named}
 
 -- the entry, behind some others, passes the checks

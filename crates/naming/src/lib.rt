@@ -6,14 +6,14 @@ ghost use Rattle.calendar.specs.Operation.{Operation};
 ghost use Rattle.calendar.specs.Reply.Reply.{answer};
 ghost use Rattle.calendar.specs.Table.{named};
 ghost use Rattle.entries.specs.Entries.{entryOf};
-ghost use Rattle.operands.specs.Operations.{operands};
+ghost use Rattle.kinds.specs.Operations.{operands};
 ghost use Rattle.naming.specs.Naming.{Passes, KindOf, secondOf, Names};
-use alterations::Alteration;
+use kinds::Alteration;
 use entries::Entry;
-use operands::Kind;
-use operands::SetOperation;
-use selections::Pick;
-use selections::Selection;
+use kinds::Kind;
+use kinds::SetOperation;
+use kinds::Pick;
+use kinds::Selection;
 
 // An operation over the rows of earlier entries: its kind and its operands. A kind that names fewer than two is given the first one twice.
 pub struct Named {

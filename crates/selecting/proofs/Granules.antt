@@ -20,13 +20,14 @@ use Rattle.granules.specs.Valid.{Valid}
 use Rattle.granules.proofs.Tests.{true≢false}
 use Rattle.rows.specs.declared.Cursor.{Cursor}
 use Rattle.rows.specs.Cursor.{cursorAt}
-use Rattle.selections.specs.declared.Selection.{Selection}
-use Rattle.selections.specs.declared.Selection.the-variants.{Down, Up, Intersecting}
+use Rattle.kinds.specs.declared.Selection.{Selection}
+use Rattle.kinds.specs.declared.Selection.the-variants.{Down, Up, Intersecting}
 use Rattle.selections.specs.declared.Picked.{Picked}
 use Rattle.selections.specs.declared.Decision.{Decision}
-use Rattle.selections.specs.Memos.{selectionOf, flagOf, Remembers}
+use Rattle.kinds.specs.Operations.{selectionOf}
+use Rattle.selections.specs.Memos.{flagOf, Remembers}
 use Rattle.selections.specs.Deciding.{Decides}
-use Rattle.operands.specs.declared.Kind.the-variants.{Select}
+use Rattle.kinds.specs.declared.Kind.the-variants.{Select}
 use Rattle.filling.proofs.Turns.{Lent, Turn, rowOf}
 use Rattle.stretches.specs.declared.Reached.{Reached}
 use Rattle.stretches.specs.Stretch.{Stretched, Led}

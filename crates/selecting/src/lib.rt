@@ -2,26 +2,20 @@
 
 ghost use mathlib.Core.Path.{_≡_};
 ghost use mathlib.Core.Bool.{true};
-ghost use mathlib.Core.List.{_++_};
-ghost use Prim.Native.Nat.{_+_};
 ghost use lib.IntN.{pos};
-ghost use lib.ListN.{length, take, drop};
 ghost use Rattle.calendar.specs.Lists.{only, equal};
-ghost use Rattle.calendar.specs.Compute.{working};
-ghost use Rattle.calendar.specs.Checks.{labelsInRange};
 ghost use Rattle.rows.specs.Found.{found};
-ghost use Rattle.operands.specs.declared.Kind.the-variants.{Select};
-ghost use Rattle.operands.specs.Operations.{operationOf};
-ghost use Rattle.operands.specs.Stands.{rowIn};
+ghost use Rattle.kinds.specs.declared.Kind.the-variants.{Select};
+ghost use Rattle.kinds.specs.Stands.{rowIn};
 ghost use Rattle.filling.specs.Given.{Given};
-ghost use Rattle.filling.specs.Placed.{Placed, filledAs};
+ghost use Rattle.filling.specs.Placed.{Placed, over, Fills};
 use filling::Filled;
 use filling::any;
 use filling::end_of;
 use filling::outcome;
-use operands::Operand;
+use kinds::Operand;
 use rows::Found;
-use selections::Selection;
+use kinds::Selection;
 use stretches::cell_of;
 use stretches::fill_leading;
 use stretches::fill_stretch;
@@ -50,9 +44,7 @@ pub fn fill_select(
 ) -> Filled
     requires { ⌜ Given (Select by) (rowIn (now pool) a) (rowIn (now pool) b) ⌝ }
     requires { ⌜ Placed (Select by) a b span at period (now pool) ⌝ }
-    ensures answer { λ r. ⌜ r ≡ filledAs (operationOf (Select by) (rowIn (now (pool .entry)) a) (rowIn (now (pool .entry)) b)) ⌝ }
-    ensures length { λ r. ⌜ length (now (pool .exit)) ≡ length (now (pool .entry)) ⌝ }
-    ensures cells { λ r. ⌜ (labelsInRange (operationOf (Select by) (rowIn (now (pool .entry)) a) (rowIn (now (pool .entry)) b)) ≡ true → now (pool .exit) ≡ take at (now (pool .entry)) ++ (working (operationOf (Select by) (rowIn (now (pool .entry)) a) (rowIn (now (pool .entry)) b)) .cells ++ drop (at + period) (now (pool .entry)))) ⌝ }
+    ensures { λ r. ⌜ Fills (over (Select by) (now (pool .entry)) a b) at period (now (pool .entry)) (now (pool .exit)) r ⌝ }
 {
     let a_start = a.start;
     let a_end = end_of(a, at);

@@ -10,7 +10,7 @@ use Rattle.integers.proofs.Linear.{ints, _∴_}
 use Rattle.calendar.specs.Algebra.{Rising, positions, pickStart}
 use Rattle.tallies.specs.Tallies.{firstOr, lastOr, tallyBackOf}
 use Rattle.tallies.proofs.BackPositions.{positions-reverse, first-reverse, last-reverse}
-use Rattle.selections.specs.declared.Pick.{Pick}
+use Rattle.kinds.specs.declared.Pick.{Pick}
 use Rattle.selections.specs.declared.Picked.{Picked}
 use Rattle.selections.specs.Memos.{Picks}
 use Rattle.selections.proofs.Starts.{start-below, picks}

@@ -23,11 +23,12 @@ use Rattle.granules.proofs.Lists.{any-iff}
 use Rattle.granules.proofs.Inside.{inside-iff, meeting-lists, within-lists}
 use Rattle.algebra.proofs.Pick.{pick-member}
 use Rattle.tallies.specs.Tallies.{candidates}
-use Rattle.selections.specs.declared.Pick.{Pick}
+use Rattle.kinds.specs.declared.Pick.{Pick}
 use Rattle.selections.specs.declared.Picked.{Picked}
 use Rattle.selections.specs.declared.Decision.{Decision}
-use Rattle.selections.specs.declared.Selection.{Selection}
-use Rattle.selections.specs.Memos.{selectionOf, flagOf, taken, Picks, Recalls, Remembers}
+use Rattle.kinds.specs.declared.Selection.{Selection}
+use Rattle.kinds.specs.Operations.{selectionOf}
+use Rattle.selections.specs.Memos.{flagOf, taken, Picks, Recalls, Remembers}
 use Rattle.selections.specs.Deciding.{takes, selectionBy, Decides}
 
 member-iff : (j : ℤ) (l : List ℤ) → (any (equal j) l ≡ true) ↔ List·Memᴰ j l

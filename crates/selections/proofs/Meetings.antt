@@ -26,9 +26,10 @@ use Rattle.rows.specs.Cursor.{cursorAt}
 use Rattle.granule_ends.proofs.Walks.{ahead}
 use Rattle.rows.proofs.Bounds.{first-bounds}
 use Rattle.tallies.specs.Tallies.{candidates}
-use Rattle.selections.specs.declared.Pick.{Pick}
+use Rattle.kinds.specs.declared.Pick.{Pick}
 use Rattle.selections.specs.declared.Picked.{Picked}
-use Rattle.selections.specs.Memos.{selectionOf, Picks, Recalls}
+use Rattle.kinds.specs.Operations.{selectionOf}
+use Rattle.selections.specs.Memos.{Picks, Recalls}
 use Rattle.selections.specs.Deciding.{takes, selectionBy}
 use Rattle.selections.specs.Meeting.{StartsAt}
 use Rattle.selections.proofs.Decisions.{Passes, nowhere, later}

@@ -15,7 +15,7 @@ use Rattle.calendar.specs.Algebra.{Rising, positions, pickStart, pick}
 use Rattle.calendar.specs.Lists.{any, equal}
 use Rattle.tallies.specs.Tallies.{firstOr, lastOr}
 use Rattle.tallies.proofs.Positions.{mem-any, ends-taken, at-positions}
-use Rattle.selections.specs.declared.Pick.{Pick}
+use Rattle.kinds.specs.declared.Pick.{Pick}
 use Rattle.selections.specs.declared.Picked.{Picked}
 use Rattle.selections.specs.Memos as Memos
 use Rattle.selections.specs.Memos.{Picks}

@@ -8,11 +8,12 @@ use Rattle.calendar.specs.Algebra.{pick}
 use Rattle.calendar.specs.Lists.{any, equal}
 use Rattle.calendar.specs.Compute.{selects}
 use Rattle.tallies.specs.Tallies.{candidates}
-use Rattle.selections.specs.declared.Pick.{Pick}
+use Rattle.kinds.specs.declared.Pick.{Pick}
 use Rattle.selections.specs.declared.Decision.{Decision}
-use Rattle.selections.specs.declared.Selection.{Selection}
-use Rattle.selections.specs.declared.Selection.the-variants.{Down, Up, Intersecting}
-use Rattle.selections.specs.Memos.{flagOf, selectionOf, Remembers}
+use Rattle.kinds.specs.declared.Selection.{Selection}
+use Rattle.kinds.specs.declared.Selection.the-variants.{Down, Up, Intersecting}
+use Rattle.kinds.specs.Operations.{selectionOf}
+use Rattle.selections.specs.Memos.{flagOf, Remembers}
 
 -- Pick takes a's granule j for b's granule i
 abbrev pub takes : Pick → Bool → Row → Row → ℤ → ℤ → Bool

@@ -6,35 +6,13 @@ use lib.IntN.{ℤ, pos, negℤ}
 use lib.Signed.{_≤ℤ_, leZ}
 use Rattle.integers.specs.Parts.{up}
 use Rattle.calendar.specs.Meaning.{Row}
-use Rattle.calendar.specs.Operation as Operation
-use Rattle.calendar.specs.Operation.{Selection as Selections}
 use Rattle.calendar.specs.Algebra.{pick}
 use Rattle.calendar.specs.Lists.{any, equal}
-use Rattle.calendar.specs.Table.{million}
 use Rattle.tallies.specs.Tallies.{candidates}
-use Rattle.selections.specs.declared.Pick.{Pick}
+use Rattle.kinds.specs.declared.Pick.{Pick}
 use Rattle.selections.specs.declared.Picked.{Picked}
-use Rattle.selections.specs.declared.Selection.{Selection}
-use Rattle.selections.specs.declared.Selection.the-variants.{Down, Up, Intersecting}
-
--- a selection of the code, in document 01's terms
-abbrev pub selectionOf : Selection → Operation.Selection
-selectionOf (Down p) = Selections.select-down (p .x) (up (p .y))
-selectionOf Up = Selections.select-up
-selectionOf (Intersecting p) = Selections.select-intersecting (p .x) (up (p .y))
-
--- "Pick: x is not 0 and within ±1,000,000; y is 1 to 1,000,000."
-pub record PickLimits (p : Pick) : Type 0 where
-  pub not-zero : ¬ (p .x ≡ pos 0)
-  pub x-low : negℤ million ≤ℤ p .x
-  pub x-high : p .x ≤ℤ million
-  pub y-low : pos 1 ≤ℤ p .y
-  pub y-high : p .y ≤ℤ million
-
-abbrev pub Picking : Selection → Type 0
-Picking (Down p) = PickLimits p
-Picking Up = Unit {0}
-Picking (Intersecting p) = PickLimits p
+use Rattle.kinds.specs.declared.Selection.{Selection}
+use Rattle.kinds.specs.declared.Selection.the-variants.{Down, Up, Intersecting}
 
 -- a test as a number: 1 where it holds, 0 where not
 abbrev pub flagOf : Bool → ℤ

@@ -13,28 +13,18 @@ ghost use Rattle.calendar.specs.Questions.{given};
 ghost use Rattle.rows.specs.Found.{Sound, Within};
 ghost use Rattle.rows.specs.Cursor.{cursorAt};
 ghost use Rattle.selections.specs.Memos as Memos;
-ghost use Rattle.selections.specs.Memos.{Picking, Remembers, flagOf};
+ghost use Rattle.kinds.specs.Limits.{Picking};
+ghost use Rattle.selections.specs.Memos.{Remembers, flagOf};
 ghost use Rattle.selections.specs.Deciding.{Decides, isUp};
-ghost use Rattle.selections.specs.declared.Pick.{Pick};
-ghost use Rattle.selections.specs.declared.Selection.the-variants.{Down, Intersecting};
+ghost use Rattle.kinds.specs.declared.Pick.{Pick};
+ghost use Rattle.kinds.specs.declared.Selection.the-variants.{Down, Intersecting};
+use kinds::Pick;
+use kinds::Selection;
 use rows::Cursor;
 
 mod judging;
 mod taking;
 mod up;
-
-// Document 01's Pick: y positions from x on, counted from the end where x is below zero.
-pub struct Pick {
-    pub x: i64,
-    pub y: i64,
-}
-
-// The kinds select-down, select-up and select-intersecting.
-pub enum Selection {
-    Down(Pick),
-    Up,
-    Intersecting(Pick),
-}
 
 // What Pick takes for b's granule `of`, once that is known (1 is yes): of the granules in question those from low to high, if any. Here and below a
 // test that is kept is a number: the padding of a bool slows down each copy.

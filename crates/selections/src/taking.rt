@@ -10,8 +10,9 @@ ghost use Rattle.calendar.specs.Questions.{given};
 ghost use Rattle.rows.specs.Found.{Sound, Within};
 ghost use Rattle.rows.specs.Cursor.{cursorAt};
 ghost use Rattle.tallies.specs.Tallies.{candidates};
-ghost use Rattle.selections.specs.Memos.{PickLimits, Picks, pickedOf};
-use super::Pick;
+ghost use Rattle.kinds.specs.Limits.{PickLimits};
+ghost use Rattle.selections.specs.Memos.{Picks, pickedOf};
+use kinds::Pick;
 use super::Picked;
 use rows::Cursor;
 

@@ -17,12 +17,13 @@ use Rattle.calendar.specs.Compute.{result}
 use Rattle.granules.proofs.Calendars.{labelled-near}
 use Rattle.granules.proofs.Sound.{sound-valid}
 use Rattle.algebra.proofs.Right.{right}
-use Rattle.operands.specs.declared.Kind.{Kind}
-use Rattle.operands.specs.declared.Kind.the-variants.{Bottom, Group, Shift, Alter, Combine, Anchor, Select, ByLabels, Renumber}
-use Rattle.operands.specs.Operations.{operationOf, operands}
+use Rattle.kinds.specs.declared.Kind.{Kind}
+use Rattle.kinds.specs.declared.Kind.the-variants.{Bottom, Group, Shift, Alter, Combine, Anchor, Select, ByLabels, Renumber}
+use Rattle.kinds.specs.Operations.{operationOf, operands}
 use Rattle.filling.specs.Given.{Given}
 use Rattle.filling.specs.declared.Filled.the-variants.{Labelled, Unlabelled}
-use Rattle.filling.proofs.Turns.{Lent, Turn, Fills, rowOf, turn-done}
+use Rattle.filling.specs.Placed.{Fills}
+use Rattle.filling.proofs.Turns.{Lent, Turn, rowOf, turn-done}
 
 -- a labelled instant of the row has a label in the result
 has-label : (k : Kind) (a b : Row) → operands k ≡ 1 → Given k a b → (i : ℤ) × Has (result (operationOf k a b)) i

@@ -8,8 +8,8 @@ use lib.Signed.{_≤ℤ_}
 use mir.Syntax.{w64}
 use mir.Val.{ofZ}
 use Rattle.integers.specs.Parts.{up}
-use Rattle.operands.specs.declared.Operand.{Operand}
-use Rattle.operands.specs.Stands.{end}
+use Rattle.kinds.specs.declared.Operand.{Operand}
+use Rattle.kinds.specs.Stands.{end}
 use Rattle.filling.proofs.Turns.{Lent, lentAs, lentOf}
 
 -- its period is the number of its cells

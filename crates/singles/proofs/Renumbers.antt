@@ -22,9 +22,10 @@ use Rattle.calendar.specs.Compute.{renumbered, cellOf}
 use Rattle.calendar.specs.Checks.{inRange, poolLimit}
 use Rattle.granules.specs.Valid.{Valid}
 use Rattle.rows.proofs.Numbers.{numbers, valid}
-use Rattle.operands.specs.declared.Kind.the-variants.{Renumber}
+use Rattle.kinds.specs.declared.Kind.the-variants.{Renumber}
 use Rattle.filling.specs.declared.Filled.the-variants.{Labelled, Unlabelled, OutOfRange}
-use Rattle.filling.proofs.Turns.{Lent, Turn, Fills, rowOf, a-kept, turn-length, turn-ends, turn-index, turn-more, turn-out, turn-done}
+use Rattle.filling.specs.Placed.{Fills}
+use Rattle.filling.proofs.Turns.{Lent, Turn, rowOf, a-kept, turn-length, turn-ends, turn-index, turn-more, turn-out, turn-done}
 use Rattle.singles.specs.Counts.{Counts}
 use Rattle.singles.proofs.Instants.{label-at, labelled-first}
 use Rattle.singles.proofs.Counting.{Step, result-is, count-fits}

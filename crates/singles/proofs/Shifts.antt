@@ -26,13 +26,13 @@ use Rattle.granules.proofs.Sound.{sound-valid}
 use Rattle.granules.proofs.Equal.{cell-cases}
 use Rattle.rows.specs.Found.{Within}
 use Rattle.rows.proofs.Bounds.{cell-bound}
-use Rattle.operands.specs.declared.Operand.{Operand}
-use Rattle.operands.specs.Stands.{end, rowIn}
+use Rattle.kinds.specs.declared.Operand.{Operand}
+use Rattle.kinds.specs.Stands.{end, rowIn}
 use Rattle.filling.specs.declared.Filled.the-variants.{Labelled, OutOfRange}
 use Rattle.filling.specs.Placed.{filledAs}
 use Rattle.filling.proofs.Cells.{row-kept}
 use Rattle.filling.proofs.Working.{Writes, working-length, working-at, writes-labelled, writes-all, out-of-range, filled-out}
-use Rattle.filling.proofs.Turns.{Fills}
+use Rattle.filling.specs.Placed.{Fills}
 use Rattle.singles.proofs.Instants.{label-at, labelled-first}
 
 -- the label of an instant

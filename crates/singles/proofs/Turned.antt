@@ -25,12 +25,13 @@ use Rattle.calendar.specs.Checks.{inRange, sound}
 use Rattle.granules.proofs.Tests.{true≢false, ltb-iff, decided}
 use Rattle.rows.proofs.Cursors.{cursor-at}
 use Rattle.algebra.proofs.Pointwise.{group-period}
-use Rattle.operands.specs.declared.Kind.the-variants.{Group}
-use Rattle.operands.specs.Operations.{operationOf}
+use Rattle.kinds.specs.declared.Kind.the-variants.{Group}
+use Rattle.kinds.specs.Operations.{operationOf}
 use Rattle.filling.specs.declared.Filled.the-variants.{OutOfRange}
 use Rattle.filling.proofs.Points.{label-small}
 use Rattle.filling.proofs.Working.{filled-out, out-of-range}
-use Rattle.filling.proofs.Turns.{Lent, Turn, Fills, rowOf, turn-length, turn-more, a-kept, turn-ends}
+use Rattle.filling.specs.Placed.{Fills}
+use Rattle.filling.proofs.Turns.{Lent, Turn, rowOf, turn-length, turn-more, a-kept, turn-ends}
 use Rattle.filling.proofs.Cursors.{Cell, cells-are, cell-on, label-of-cell}
 use Rattle.singles.specs.Grouped.{labelAt, groupAt, Small, grouped, Grouped}
 use Rattle.singles.proofs.Groups.{group-of}

@@ -3,29 +3,26 @@
 ghost use mathlib.Core.Path.{_≡_};
 ghost use mathlib.Core.Bool.{true, false};
 ghost use mathlib.Core.Option.{some};
-ghost use mathlib.Core.List.{_++_};
 ghost use Prim.Native.Nat.{ℕ, _+_, _^_, _≤_, _<_};
 ghost use lib.IntN.{ℤ, pos};
 ghost use lib.Signed.{_≤ℤ_};
-ghost use lib.ListN.{length, take, drop};
+ghost use lib.ListN.{length};
 ghost use Rattle.integers.specs.Parts.{up};
 ghost use Rattle.integers.specs.Floor.{ceilDiv};
 ghost use Rattle.calendar.specs.Table.{million};
-ghost use Rattle.calendar.specs.Compute.{working};
-ghost use Rattle.calendar.specs.Checks.{inRange, labelsInRange, poolLimit};
+ghost use Rattle.calendar.specs.Checks.{inRange, poolLimit};
 ghost use Rattle.rows.specs.Found.{Within};
-ghost use Rattle.operands.specs.declared.Kind.the-variants.{Group};
-ghost use Rattle.operands.specs.Operations.{operationOf};
-ghost use Rattle.operands.specs.Stands.{rowIn};
+ghost use Rattle.kinds.specs.declared.Kind.the-variants.{Group};
+ghost use Rattle.kinds.specs.Stands.{rowIn};
 ghost use Rattle.filling.specs.Given.{Given};
-ghost use Rattle.filling.specs.Placed.{Placed, filledAs};
+ghost use Rattle.filling.specs.Placed.{Placed, over, Fills};
 ghost use Rattle.singles.specs.Grouped.{Knows, Small, Grouped, groupAt};
 use calendar::Calendar;
 use filling::Filled;
 use filling::Known;
 use filling::covers;
 use filling::end_of;
-use operands::Operand;
+use kinds::Operand;
 
 // The group of the label j, with the labels that it has.
 fn group_of(x: i64, j: i64) -> Known
@@ -95,9 +92,7 @@ pub fn fill_group(
 ) -> Filled
     requires { ⌜ Given (Group x) (rowIn (now pool) a) (rowIn (now pool) b) ⌝ }
     requires { ⌜ Placed (Group x) a b span at period (now pool) ⌝ }
-    ensures answer { λ r. ⌜ r ≡ filledAs (operationOf (Group x) (rowIn (now (pool .entry)) a) (rowIn (now (pool .entry)) b)) ⌝ }
-    ensures length { λ r. ⌜ length (now (pool .exit)) ≡ length (now (pool .entry)) ⌝ }
-    ensures cells { λ r. ⌜ (labelsInRange (operationOf (Group x) (rowIn (now (pool .entry)) a) (rowIn (now (pool .entry)) b)) ≡ true → now (pool .exit) ≡ take at (now (pool .entry)) ++ (working (operationOf (Group x) (rowIn (now (pool .entry)) a) (rowIn (now (pool .entry)) b)) .cells ++ drop (at + period) (now (pool .entry)))) ⌝ }
+    ensures { λ r. ⌜ Fills (over (Group x) (now (pool .entry)) a b) at period (now (pool .entry)) (now (pool .exit)) r ⌝ }
 {
     let start = a.start;
     let end = end_of(a, at);

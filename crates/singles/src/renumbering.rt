@@ -1,26 +1,21 @@
 // Renumber: the labels one by one from the least that is not below x, which gets 1. The working row is a turn of the operand, cell for cell.
 
 ghost use mathlib.Core.Path.{_≡_};
-ghost use mathlib.Core.Bool.{true};
-ghost use mathlib.Core.List.{_++_};
 ghost use Prim.Native.Nat.{_+_};
 ghost use lib.IntN.{pos, negsuc, _+ℤ_, _-ℤ_};
 ghost use lib.Signed.{_≤ℤ_, _<ℤ_};
-ghost use lib.ListN.{length, take, drop};
-ghost use Rattle.calendar.specs.Compute.{count, renumbered, anchored, working};
-ghost use Rattle.calendar.specs.Checks.{labelsInRange};
+ghost use Rattle.calendar.specs.Compute.{count, renumbered, anchored};
 ghost use Rattle.calendar.specs.Questions.{given};
 ghost use Rattle.rows.specs.Found.{Sound};
-ghost use Rattle.operands.specs.declared.Kind.the-variants.{Renumber};
-ghost use Rattle.operands.specs.Operations.{operationOf};
-ghost use Rattle.operands.specs.Stands.{rowIn};
+ghost use Rattle.kinds.specs.declared.Kind.the-variants.{Renumber};
+ghost use Rattle.kinds.specs.Stands.{rowIn};
 ghost use Rattle.filling.specs.Given.{Given};
-ghost use Rattle.filling.specs.Placed.{Placed, filledAs};
+ghost use Rattle.filling.specs.Placed.{Placed, over, Fills};
 use calendar::Calendar;
 use filling::Filled;
 use filling::end_of;
 use filling::last_before;
-use operands::Operand;
+use kinds::Operand;
 
 // How many labels there are above `last`, which is the last before the instant 0, and below x, which is at most a turn above it. The row's
 // own cells have them all, and labels never fall, so each cell above those before it has a new one; an empty cell is below every label.
@@ -74,9 +69,7 @@ pub fn fill_renumber(
 ) -> Filled
     requires { ⌜ Given (Renumber x) (rowIn (now pool) a) (rowIn (now pool) b) ⌝ }
     requires { ⌜ Placed (Renumber x) a b span at period (now pool) ⌝ }
-    ensures answer { λ r. ⌜ r ≡ filledAs (operationOf (Renumber x) (rowIn (now (pool .entry)) a) (rowIn (now (pool .entry)) b)) ⌝ }
-    ensures length { λ r. ⌜ length (now (pool .exit)) ≡ length (now (pool .entry)) ⌝ }
-    ensures cells { λ r. ⌜ (labelsInRange (operationOf (Renumber x) (rowIn (now (pool .entry)) a) (rowIn (now (pool .entry)) b)) ≡ true → now (pool .exit) ≡ take at (now (pool .entry)) ++ (working (operationOf (Renumber x) (rowIn (now (pool .entry)) a) (rowIn (now (pool .entry)) b)) .cells ++ drop (at + period) (now (pool .entry)))) ⌝ }
+    ensures { λ r. ⌜ Fills (over (Renumber x) (now (pool .entry)) a b) at period (now (pool .entry)) (now (pool .exit)) r ⌝ }
 {
     let start = a.start;
     let end = end_of(a, at);

@@ -1,25 +1,21 @@
 // Shift: each label plus x. The working row is a turn of the operand, cell for cell.
 
 ghost use mathlib.Core.Path.{_≡_};
-ghost use mathlib.Core.Bool.{true, not};
+ghost use mathlib.Core.Bool.{not};
 ghost use mathlib.Core.Option.{some};
-ghost use mathlib.Core.List.{_++_};
 ghost use Prim.Native.Nat.{_+_};
 ghost use lib.IntN.{ℤ};
-ghost use lib.ListN.{length, take, drop};
 ghost use Rattle.calendar.specs.Meaning.{labelOf, raise};
 ghost use Rattle.calendar.specs.Lists.{ifLabel};
-ghost use Rattle.calendar.specs.Compute.{working};
-ghost use Rattle.calendar.specs.Checks.{labelsInRange, inRange};
+ghost use Rattle.calendar.specs.Checks.{inRange};
 ghost use Rattle.rows.specs.Found.{Within};
-ghost use Rattle.operands.specs.declared.Kind.the-variants.{Shift};
-ghost use Rattle.operands.specs.Operations.{operationOf};
-ghost use Rattle.operands.specs.Stands.{rowIn};
+ghost use Rattle.kinds.specs.declared.Kind.the-variants.{Shift};
+ghost use Rattle.kinds.specs.Stands.{rowIn};
 ghost use Rattle.filling.specs.Given.{Given};
-ghost use Rattle.filling.specs.Placed.{Placed, filledAs};
+ghost use Rattle.filling.specs.Placed.{Placed, over, Fills};
 use calendar::Calendar;
 use filling::Filled;
-use operands::Operand;
+use kinds::Operand;
 
 // The cell of a label plus x, or the empty mark.
 fn shifted(cell: i32, x: i32) -> i32
@@ -57,9 +53,7 @@ pub fn fill_shift(
 ) -> Filled
     requires { ⌜ Given (Shift x) (rowIn (now pool) a) (rowIn (now pool) b) ⌝ }
     requires { ⌜ Placed (Shift x) a b span at period (now pool) ⌝ }
-    ensures answer { λ r. ⌜ r ≡ filledAs (operationOf (Shift x) (rowIn (now (pool .entry)) a) (rowIn (now (pool .entry)) b)) ⌝ }
-    ensures length { λ r. ⌜ length (now (pool .exit)) ≡ length (now (pool .entry)) ⌝ }
-    ensures cells { λ r. ⌜ (labelsInRange (operationOf (Shift x) (rowIn (now (pool .entry)) a) (rowIn (now (pool .entry)) b)) ≡ true → now (pool .exit) ≡ take at (now (pool .entry)) ++ (working (operationOf (Shift x) (rowIn (now (pool .entry)) a) (rowIn (now (pool .entry)) b)) .cells ++ drop (at + period) (now (pool .entry)))) ⌝ }
+    ensures { λ r. ⌜ Fills (over (Shift x) (now (pool .entry)) a b) at period (now (pool .entry)) (now (pool .exit)) r ⌝ }
 {
     let start = a.start;
     let by = x as i32;

@@ -15,8 +15,8 @@ use Rattle.calendar.specs.Operation.{Operation}
 use Rattle.calendar.specs.Lists.{isSome, ifLabel}
 use Rattle.calendar.specs.Compute.{result, cellOf}
 use Rattle.calendar.specs.Checks.{inRange, sound}
-use Rattle.operands.specs.declared.Kind.{Kind}
-use Rattle.operands.specs.Operations.{operationOf}
+use Rattle.kinds.specs.declared.Kind.{Kind}
+use Rattle.kinds.specs.Operations.{operationOf}
 use Rattle.filling.proofs.Working.{range-fits}
 use Rattle.filling.proofs.Turns.{Lent, Turn, rowOf, turn-length, a-kept, b-kept}
 use Rattle.stretches.specs.declared.Reached.{Reached}

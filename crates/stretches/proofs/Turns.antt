@@ -21,8 +21,8 @@ use Rattle.calendar.specs.Compute.{result, cellOf}
 use Rattle.calendar.specs.Checks.{inRange}
 use Rattle.granules.specs.Valid.{Valid}
 use Rattle.granule_ends.proofs.Walks.{first-is}
-use Rattle.operands.specs.declared.Kind.{Kind}
-use Rattle.operands.specs.Operations.{operationOf}
+use Rattle.kinds.specs.declared.Kind.{Kind}
+use Rattle.kinds.specs.Operations.{operationOf}
 use Rattle.filling.proofs.Turns.{Lent, Turn, rowOf, turn-more}
 use Rattle.stretches.specs.declared.Reached.{Reached}
 use Rattle.stretches.specs.Stretch.{cellWhere, stretched, Stretched, Led}

@@ -11,7 +11,6 @@ ghost use Rattle.calendar.specs.Questions.{given};
 ghost use Rattle.rows.specs.Found.{Sound, Within};
 ghost use Rattle.rows.specs.Cursor.{cursorAt};
 use rows::Cursor;
-use rows::Found;
 
 // An instant, with its cursors in the granule's row and in the other one.
 pub struct Instant {
@@ -44,29 +43,10 @@ pub fn first_of(
     ensures other { λ r. ⌜ r .other ≡ cursorAt (given «h_period» «h_distance» (now («h_cells» .entry))) (r .at) ⌝ }
     ensures near { λ r. ⌜ Within (2 ^ 58) (r .at) ⌝ }
 {
-    let mut at = t;
-    let mut own = g;
-    let mut other = h;
-    let mut first = Instant {
-        at: t,
-        own: g,
-        other: h,
-    };
-    loop {
-        at -= 1;
-        own = rows::cursor_back(g_cells, g_period, g_distance, own);
-        other = rows::cursor_back(h_cells, h_period, h_distance, other);
-        let label = rows::cursor_label(g_cells, g_period, g_distance, own);
-        match label {
-            Found::At(k) => {
-                if k != j {
-                    return first;
-                }
-                first = Instant { at, own, other };
-            }
-            Found::Nothing => {}
-        }
-    }
+    let at = granule_ends::first_instant(g_cells, g_period, g_distance, t);
+    let own = rows::cursor_at(g_cells, g_period, g_distance, at);
+    let other = rows::cursor_at(h_cells, h_period, h_distance, at);
+    Instant { at, own, other }
 }
 
 // The last instant of g's granule j, of which t is one: on from t, in the same way.
@@ -93,29 +73,10 @@ pub fn last_of(
     ensures other { λ r. ⌜ r .other ≡ cursorAt (given «h_period» «h_distance» (now («h_cells» .entry))) (r .at) ⌝ }
     ensures near { λ r. ⌜ Within (2 ^ 58) (r .at) ⌝ }
 {
-    let mut at = t;
-    let mut own = g;
-    let mut other = h;
-    let mut last = Instant {
-        at: t,
-        own: g,
-        other: h,
-    };
-    loop {
-        at += 1;
-        own = rows::cursor_next(g_cells, g_period, g_distance, own);
-        other = rows::cursor_next(h_cells, h_period, h_distance, other);
-        let label = rows::cursor_label(g_cells, g_period, g_distance, own);
-        match label {
-            Found::At(k) => {
-                if k != j {
-                    return last;
-                }
-                last = Instant { at, own, other };
-            }
-            Found::Nothing => {}
-        }
-    }
+    let at = granule_ends::last_instant(g_cells, g_period, g_distance, t);
+    let own = rows::cursor_at(g_cells, g_period, g_distance, at);
+    let other = rows::cursor_at(h_cells, h_period, h_distance, at);
+    Instant { at, own, other }
 }
 
 // The first instant of g's granule j: t itself, where that is known.

@@ -13,8 +13,8 @@ use Rattle.calendar.specs.Meaning.{Row}
 use Rattle.calendar.specs.Granules.{granules}
 use Rattle.calendar.specs.Questions.{given}
 use Rattle.rows.proofs.Numbers.{numbers}
-use Rattle.operands.specs.declared.Kind.{Kind}
-use Rattle.operands.specs.Operations.{operationOf, operands, Numbers, SoundFirst}
+use Rattle.kinds.specs.declared.Kind.{Kind}
+use Rattle.kinds.specs.Operations.{operationOf, operands, Numbers, SoundFirst}
 use Rattle.checks.specs.declared.Checked.{Checked}
 use Rattle.checks.specs.Admission.{admission, checkedOf}
 use Rattle.checks.specs.Shared.{wholeTurn, fitted}

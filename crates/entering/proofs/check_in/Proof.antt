@@ -3,7 +3,7 @@
 use mathlib.Core.Path.{_≡_}
 use borrow.Author.Needs.{needs}
 use Rattle.integers.proofs.Machine.{plain}
-use Rattle.operands.specs.Stands.{rowIn}
+use Rattle.kinds.specs.Stands.{rowIn}
 use Rattle.entering.proofs.Parts.{OperandFits, handed, handed-is}
 use Rattle.entering.proofs.check_in.Statement.{statement}
 use Rattle.entering.proofs.check_in.Tie as tie

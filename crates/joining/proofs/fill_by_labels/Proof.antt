@@ -12,12 +12,13 @@ use lib.ListN.{length}
 use Rattle.integers.proofs.Linear.{ints}
 use Rattle.calendar.specs.Compute.{result}
 use Rattle.rows.specs.Found.{found}
-use Rattle.operands.specs.declared.Kind.the-variants.{ByLabels}
-use Rattle.operands.specs.Operations.{operationOf}
-use Rattle.operands.specs.Stands.{rowIn}
+use Rattle.kinds.specs.declared.Kind.the-variants.{ByLabels}
+use Rattle.kinds.specs.Operations.{operationOf}
+use Rattle.kinds.specs.Stands.{rowIn}
 use Rattle.filling.specs.declared.Filled.{Filled}
 use Rattle.filling.proofs.Cells.{lent-is}
-use Rattle.filling.proofs.Turns.{Lent, Turn, Fills, lentAs, lentOf, rowOf, first-two, fills-two, turn-length, turn-ends, turn-index, turn-more, turn-out, turn-done}
+use Rattle.filling.specs.Placed.{Fills}
+use Rattle.filling.proofs.Turns.{Lent, Turn, lentAs, lentOf, rowOf, first-two, fills-two, turn-length, turn-ends, turn-index, turn-more, turn-out, turn-done}
 use Rattle.joining.specs.Scanning.{Joins}
 use Rattle.filling.proofs.Steps.{step-asks, step-gave}
 use Rattle.joining.proofs.fill_by_labels.Statement.{statement}

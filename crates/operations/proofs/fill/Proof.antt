@@ -7,14 +7,14 @@ use lib.IntN.{ℤ}
 use mir.Facts.{toZ-ofZ}
 use mir.Syntax.{w64}
 use mir.Val.{toZ, ofZ}
-use Rattle.operands.specs.declared.Kind.{Kind}
-use Rattle.operands.specs.declared.Kind.the-variants.{Group, Shift, Renumber}
-use Rattle.operands.specs.Operations.{operationOf}
-use Rattle.operands.specs.Stands.{rowIn}
+use Rattle.kinds.specs.declared.Kind.{Kind}
+use Rattle.kinds.specs.declared.Kind.the-variants.{Group, Shift, Renumber}
+use Rattle.kinds.specs.Operations.{operationOf}
+use Rattle.kinds.specs.Stands.{rowIn}
 use Rattle.filling.specs.declared.Filled.{Filled}
 use Rattle.filling.specs.Given.{Given}
 use Rattle.filling.specs.Placed.{Placed}
-use Rattle.filling.proofs.Turns.{Fills}
+use Rattle.filling.specs.Placed.{Fills}
 use Rattle.operations.proofs.fill.Statement.{statement}
 use Rattle.operations.proofs.fill.Tie as tie
 

@@ -14,12 +14,13 @@ use Rattle.calendar.specs.Compute.{selects}
 use Rattle.calendar.specs.Questions.{given}
 use Rattle.granules.proofs.Tests.{true≢false}
 use Rattle.rows.specs.Found.{Within}
-use Rattle.selections.specs.declared.Pick.{Pick}
+use Rattle.kinds.specs.declared.Pick.{Pick}
 use Rattle.selections.specs.declared.Picked.{Picked}
 use Rattle.selections.specs.declared.Decision.{Decision}
-use Rattle.selections.specs.declared.Selection.{Selection}
-use Rattle.selections.specs.declared.Selection.the-variants.{Down, Up, Intersecting}
-use Rattle.selections.specs.Memos.{PickLimits, Picking, flagOf, Recalls, Remembers}
+use Rattle.kinds.specs.declared.Selection.{Selection}
+use Rattle.kinds.specs.declared.Selection.the-variants.{Down, Up, Intersecting}
+use Rattle.kinds.specs.Limits.{PickLimits, Picking}
+use Rattle.selections.specs.Memos.{flagOf, Recalls, Remembers}
 use Rattle.selections.specs.Deciding.{selectionBy, isUp, Decides}
 use Rattle.selections.proofs.Decisions.{decides}
 use Rattle.selections.proofs.decided.Statement.{statement}

@@ -8,10 +8,10 @@ use mathlib.Core.Logic.{⊎-elim}
 use mathlib.Core.Bool.{false}
 use mathlib.Core.List.{[], _∷_}
 use native.Mathlib.Omega.{arith}
-use Rattle.selections.specs.declared.Selection.{Selection}
-use Rattle.selections.specs.declared.Selection.the-variants.{Down, Up, Intersecting}
+use Rattle.kinds.specs.declared.Selection.{Selection}
+use Rattle.kinds.specs.declared.Selection.the-variants.{Down, Up, Intersecting}
 use Rattle.selections.specs.Deciding.{isUp}
-use Rattle.selections.proofs.Selection.{the-type}
+use Rattle.kinds.proofs.Selection.{the-type}
 use Rattle.selections.proofs.is_up.Statement.{statement}
 use Rattle.selections.proofs.is_up.Tie as tie
 

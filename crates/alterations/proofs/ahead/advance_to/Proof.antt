@@ -13,7 +13,7 @@ use Rattle.integers.proofs.Machine.{plain}
 use Rattle.calendar.specs.Meaning.{Row}
 use Rattle.calendar.specs.Questions.{given}
 use Rattle.rows.specs.Found.{Sound}
-use Rattle.alterations.specs.declared.Alteration.{Alteration}
+use Rattle.kinds.specs.declared.Alteration.{Alteration}
 use Rattle.alterations.specs.declared.ahead.Walk.{Walk}
 use Rattle.alterations.specs.Follows.{Altering, begins, Holds, Walks}
 use Rattle.alterations.proofs.Tiled.{begins-rise}

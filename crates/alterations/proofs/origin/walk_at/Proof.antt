@@ -14,7 +14,7 @@ use Rattle.integers.proofs.Linear.{ints, _∴_}
 use Rattle.integers.proofs.Machine.{plain}
 use Rattle.calendar.specs.Algebra.{changes}
 use Rattle.rows.proofs.Numbers.{read-as}
-use Rattle.alterations.specs.declared.Alteration.{Alteration}
+use Rattle.kinds.specs.declared.Alteration.{Alteration}
 use Rattle.alterations.specs.declared.coarse.Begin.{Begin}
 use Rattle.alterations.proofs.Sized.{Small, small}
 use Rattle.alterations.proofs.Started.{firstOf, turnsOf, started, Numbered, numbered}

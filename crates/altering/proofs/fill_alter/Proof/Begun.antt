@@ -13,15 +13,16 @@ use mir.Syntax.{w64}
 use mir.Val.{toZ, ofZ}
 use Rattle.calendar.specs.Meaning.{Row}
 use Rattle.calendar.specs.Checks.{sound}
-use Rattle.alterations.specs.declared.Alteration.{Alteration}
+use Rattle.kinds.specs.declared.Alteration.{Alteration}
 use Rattle.alterations.specs.declared.Repeat.{Repeat}
-use Rattle.operands.specs.declared.Kind.the-variants.{Alter}
-use Rattle.operands.specs.Operations.{operationOf}
-use Rattle.operands.specs.Stands.{rowIn}
+use Rattle.kinds.specs.declared.Kind.the-variants.{Alter}
+use Rattle.kinds.specs.Operations.{operationOf}
+use Rattle.kinds.specs.Stands.{rowIn}
 use Rattle.filling.specs.declared.Filled.{Filled}
 use Rattle.filling.specs.Given.{Given}
 use Rattle.filling.proofs.Cells.{lent-is, same-rows}
-use Rattle.filling.proofs.Turns.{Lent, Fills, lentAs, lentOf, rowOf, Turn, first-two, fills-two}
+use Rattle.filling.specs.Placed.{Fills}
+use Rattle.filling.proofs.Turns.{Lent, lentAs, lentOf, rowOf, Turn, first-two, fills-two}
 use Rattle.stretches.proofs.Stages.{room-a}
 use Rattle.altering.proofs.Repeated.{Span}
 use Rattle.altering.proofs.Loops.{Altering, altering-led}

@@ -14,7 +14,7 @@ use Rattle.integers.proofs.Linear.{ints, _∴_}
 use Rattle.calendar.specs.Meaning.{Row, meant}
 use Rattle.calendar.specs.Checks.{sound}
 use Rattle.rows.specs.Cursor.{cursorAt, Shown}
-use Rattle.alterations.specs.declared.Alteration.{Alteration}
+use Rattle.kinds.specs.declared.Alteration.{Alteration}
 use Rattle.alterations.specs.declared.Repeat.{Repeat}
 use Rattle.filling.proofs.Points.{label-small}
 use Rattle.filling.proofs.Turns.{rowOf, turn-length, turn-index, rows-kept, rows-stood}

@@ -23,8 +23,8 @@ use Rattle.rows.specs.Found.{found, Within}
 use Rattle.rows.specs.declared.Cursor.{Cursor}
 use Rattle.rows.specs.Cursor.{cursorAt}
 use Rattle.rows.proofs.Numbers.{valid}
-use Rattle.operands.specs.declared.Kind.the-variants.{Combine}
-use Rattle.operands.specs.Operations.{operationOf}
+use Rattle.kinds.specs.declared.Kind.the-variants.{Combine}
+use Rattle.kinds.specs.Operations.{operationOf}
 use Rattle.filling.proofs.Points.{label-small}
 use Rattle.filling.proofs.Turns.{rowOf, turn-length, rows-kept, rows-stood}
 use Rattle.stretches.specs.Stretch.{Stretched}

@@ -12,13 +12,14 @@ use Rattle.integers.proofs.Machine.{plain}
 use Rattle.calendar.specs.Meaning.{Row}
 use Rattle.calendar.specs.Checks.{sound}
 use Rattle.rows.specs.Cursor.{cursorAt}
-use Rattle.selections.specs.declared.Selection.{Selection}
-use Rattle.operands.specs.declared.Kind.the-variants.{Select}
-use Rattle.operands.specs.Operations.{operationOf}
-use Rattle.operands.specs.Stands.{rowIn}
+use Rattle.kinds.specs.declared.Selection.{Selection}
+use Rattle.kinds.specs.declared.Kind.the-variants.{Select}
+use Rattle.kinds.specs.Operations.{operationOf}
+use Rattle.kinds.specs.Stands.{rowIn}
 use Rattle.filling.specs.declared.Filled.{Filled}
 use Rattle.filling.proofs.Cells.{lent-is}
-use Rattle.filling.proofs.Turns.{Lent, Turn, Fills, lentAs, lentOf, rowOf, first-two, fills-two, turn-length, rows-stood}
+use Rattle.filling.specs.Placed.{Fills}
+use Rattle.filling.proofs.Turns.{Lent, Turn, lentAs, lentOf, rowOf, first-two, fills-two, turn-length, rows-stood}
 use Rattle.stretches.proofs.Turns.{turn-led}
 use Rattle.selecting.proofs.Granules.{Selecting, unlabelled, selecting-none}
 use Rattle.selecting.proofs.fill_select.Tie as tie

@@ -24,10 +24,11 @@ use Rattle.rows.specs.Found.{found, Within}
 use Rattle.rows.specs.declared.Cursor.{Cursor}
 use Rattle.rows.specs.Cursor.{cursorAt}
 use Rattle.rows.proofs.Numbers.{valid}
-use Rattle.selections.specs.Memos.{Picking, Remembers}
+use Rattle.kinds.specs.Limits.{Picking}
+use Rattle.selections.specs.Memos.{Remembers}
 use Rattle.selections.specs.Deciding.{Decides}
-use Rattle.operands.specs.declared.Kind.the-variants.{Select}
-use Rattle.operands.specs.Operations.{operationOf}
+use Rattle.kinds.specs.declared.Kind.the-variants.{Select}
+use Rattle.kinds.specs.Operations.{operationOf}
 use Rattle.filling.proofs.Points.{label-small}
 use Rattle.filling.proofs.Turns.{rowOf, turn-length, rows-kept, rows-stood}
 use Rattle.stretches.specs.Stretch.{Stretched}

@@ -17,13 +17,14 @@ use Rattle.integers.proofs.Machine.{plain}
 use Rattle.calendar.specs.Compute.{result}
 use Rattle.calendar.specs.Checks.{inRange, sound}
 use Rattle.rows.specs.Found.{Near}
-use Rattle.operands.specs.declared.Kind.the-variants.{Group}
-use Rattle.operands.specs.Operations.{operationOf}
-use Rattle.operands.specs.Stands.{rowIn}
+use Rattle.kinds.specs.declared.Kind.the-variants.{Group}
+use Rattle.kinds.specs.Operations.{operationOf}
+use Rattle.kinds.specs.Stands.{rowIn}
 use Rattle.filling.specs.declared.Filled.{Filled}
 use Rattle.filling.proofs.Cells.{lent-is}
 use Rattle.filling.proofs.Points.{is-near}
-use Rattle.filling.proofs.Turns.{Lent, Turn, Fills, lentOf, rowOf, first-one, fills-one, turn-length, turn-below}
+use Rattle.filling.specs.Placed.{Fills}
+use Rattle.filling.proofs.Turns.{Lent, Turn, lentOf, rowOf, first-one, fills-one, turn-length, turn-below}
 use Rattle.filling.proofs.Cursors.{Cell, first-cell, cell-bounds, cell-next}
 use Rattle.singles.specs.Grouped.{Knows}
 use Rattle.singles.proofs.Lent.{lentFrom, lent-from}

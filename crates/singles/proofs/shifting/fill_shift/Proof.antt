@@ -16,10 +16,10 @@ use Rattle.integers.proofs.Linear.{ints, _∴_}
 use Rattle.calendar.specs.Meaning.{labelOf, raise}
 use Rattle.calendar.specs.Operation.Unary.{shift}
 use Rattle.calendar.specs.Operation.Operation.{unary}
-use Rattle.operands.specs.declared.Operand.{Operand}
-use Rattle.operands.specs.Stands.{rowIn}
+use Rattle.kinds.specs.declared.Operand.{Operand}
+use Rattle.kinds.specs.Stands.{rowIn}
 use Rattle.filling.specs.declared.Filled.{Filled}
-use Rattle.filling.proofs.Turns.{Fills}
+use Rattle.filling.specs.Placed.{Fills}
 use Rattle.singles.proofs.Shifts.{Shifts, Shifted, Counts, shift-period, shifted-none, shifted-length, shifted-index, shifted-bound, shifted-more, shifted-out, shifted-done}
 use Rattle.singles.proofs.shifting.fill_shift.Statement.{statement}
 use Rattle.singles.proofs.shifting.fill_shift.Tie as tie

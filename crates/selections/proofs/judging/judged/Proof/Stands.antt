@@ -14,7 +14,8 @@ use Rattle.rows.specs.Found.{Near, Within}
 use Rattle.selections.specs.declared.Picked.{Picked}
 use Rattle.selections.specs.declared.Decision.{Decision}
 use Rattle.selections.specs.declared.judging.Seen.{Seen}
-use Rattle.selections.specs.Memos.{selectionOf, flagOf, Recalls}
+use Rattle.kinds.specs.Operations.{selectionOf}
+use Rattle.selections.specs.Memos.{flagOf, Recalls}
 use Rattle.selections.specs.Deciding.{selectionBy, Decides}
 use Rattle.selections.specs.Meeting.{SeenAt}
 use Rattle.selections.proofs.Decisions.{decides, remembers, whole-none}

@@ -11,12 +11,13 @@ use lib.ListN.{length}
 use mir.Facts.{toZ-ofZ}
 use mir.Syntax.{w64}
 use mir.Val.{toZ, ofZ}
-use Rattle.operands.specs.declared.Kind.the-variants.{Renumber}
-use Rattle.operands.specs.Operations.{operationOf}
-use Rattle.operands.specs.Stands.{rowIn}
+use Rattle.kinds.specs.declared.Kind.the-variants.{Renumber}
+use Rattle.kinds.specs.Operations.{operationOf}
+use Rattle.kinds.specs.Stands.{rowIn}
 use Rattle.filling.specs.declared.Filled.{Filled}
 use Rattle.filling.proofs.Cells.{lent-is}
-use Rattle.filling.proofs.Turns.{Turn, Fills, lentAs, lentOf, rowOf, first-one, fills-one}
+use Rattle.filling.specs.Placed.{Fills}
+use Rattle.filling.proofs.Turns.{Turn, lentAs, lentOf, rowOf, first-one, fills-one}
 use Rattle.singles.proofs.Renumbers.{Renumbers}
 use Rattle.singles.proofs.renumbering.fill_renumber.Tie as tie
 

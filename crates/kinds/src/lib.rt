@@ -1,13 +1,30 @@
 // A stored row that an operation is over, by where it stands in the pool; and the operations, by kind.
 
-use alterations::Alteration;
-use selections::Selection;
-
 // The row of an earlier entry: its first cell in the pool, its period and its distance.
 pub struct Operand {
     pub start: usize,
     pub period: i64,
     pub distance: i64,
+}
+
+// Alter's numbers: of x coarse granules the y-th gets z fine ones more.
+pub struct Alteration {
+    pub x: i64,
+    pub y: i64,
+    pub z: i64,
+}
+
+// Document 01's Pick: y positions from x on, counted from the end where x is below zero.
+pub struct Pick {
+    pub x: i64,
+    pub y: i64,
+}
+
+// The kinds select-down, select-up and select-intersecting.
+pub enum Selection {
+    Down(Pick),
+    Up,
+    Intersecting(Pick),
 }
 
 // Document 01's kinds 9, 10 and 11.

@@ -13,17 +13,24 @@ use Rattle.calendar.specs.Operation.Operation.{bottom, unary, binary}
 use Rattle.calendar.specs.Meaning.{Row}
 use Rattle.calendar.specs.Checks.{sound, limit}
 use Rattle.calendar.specs.Table.{million}
-use Rattle.selections.specs.Memos.{selectionOf, Picking}
-use Rattle.alterations.specs.Given.{Limits}
-use Rattle.operands.specs.declared.SetOperation.{SetOperation}
-use Rattle.operands.specs.declared.SetOperation.the-variants.{Union, Intersection, Difference}
-use Rattle.operands.specs.declared.Kind.{Kind}
-use Rattle.operands.specs.declared.Kind.the-variants.{Bottom, Group, Shift, Alter, Combine, Anchor, Select, ByLabels, Renumber}
+use Rattle.kinds.specs.Limits.{Limits, Picking}
+use Rattle.kinds.specs.declared.Selection.{Selection}
+use Rattle.kinds.specs.declared.Selection.the-variants.{Down, Up, Intersecting}
+use Rattle.kinds.specs.declared.SetOperation.{SetOperation}
+use Rattle.kinds.specs.declared.SetOperation.the-variants.{Union, Intersection, Difference}
+use Rattle.kinds.specs.declared.Kind.{Kind}
+use Rattle.kinds.specs.declared.Kind.the-variants.{Bottom, Group, Shift, Alter, Combine, Anchor, Select, ByLabels, Renumber}
 
 abbrev pub setOf : SetOperation → O.SetOperation
 setOf Union = union
 setOf Intersection = intersection
 setOf Difference = difference
+
+-- a selection of the code, in document 01's terms
+abbrev pub selectionOf : Selection → O.Selection
+selectionOf (Down p) = O.Selection.select-down (p .x) (up (p .y))
+selectionOf Up = O.Selection.select-up
+selectionOf (Intersecting p) = O.Selection.select-intersecting (p .x) (up (p .y))
 
 -- the operation of the kind, over whatever its operands are; those that it does not name do not show
 abbrev pub operationOf : {A : Type 0} → Kind → A → A → O.Operation A

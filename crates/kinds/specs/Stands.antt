@@ -9,7 +9,7 @@ use Rattle.integers.specs.Parts.{up}
 use Rattle.calendar.specs.Meaning.{Row}
 use Rattle.calendar.specs.Checks.{sound}
 use Rattle.calendar.specs.Questions.{given}
-use Rattle.operands.specs.declared.Operand.{Operand}
+use Rattle.kinds.specs.declared.Operand.{Operand}
 
 -- the cell behind its last one
 abbrev pub end : Operand → ℕ
