@@ -22,10 +22,10 @@ use Rattle.calendar.specs.Checks.{alignedAs, labelsOf}
 use Rattle.calendar.specs.Size.{turn, spanOf}
 use Rattle.granules.specs.Valid.{Valid}
 use Rattle.granules.proofs.Tests.{isSome-iff, sameLabel-iff, false-iff}
-use Rattle.rows.specs.Cursor.{cursorAt}
+use Rattle.cursors.specs.Cursor.{cursorAt}
 use Rattle.counts.proofs.Whole.{all-labelled}
-use Rattle.runs.specs.declared.Change.{Change}
-use Rattle.runs.specs.Changes.{Changes}
+use Rattle.strides.specs.declared.Change.{Change}
+use Rattle.strides.specs.Changes.{Changes}
 use Rattle.alignment.specs.Fits.{fits}
 use Rattle.alignment.specs.Pass.{Whole}
 use Rattle.alignment.proofs.Choices.{partition-at}

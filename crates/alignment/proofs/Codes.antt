@@ -15,8 +15,8 @@ use Rattle.integers.proofs.Linear.{ints, _∴_}
 use Rattle.calendar.specs.Meaning.{meant}
 use Rattle.calendar.specs.Questions.{given}
 use Rattle.granules.proofs.Tests.{false-iff, equal-iff}
-use Rattle.rows.specs.Found.{Sound, Near}
-use Rattle.rows.proofs.Bounds.{label-bound}
+use Rattle.cursors.specs.Found.{Sound, Near}
+use Rattle.cursors.proofs.Bounds.{label-bound}
 use Rattle.alignment.specs.Codes.{noLabel, codeOf, codedLabel}
 
 -- the number of no label stands for none, and any other for itself

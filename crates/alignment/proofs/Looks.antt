@@ -14,8 +14,8 @@ use Rattle.calendar.specs.Checks.{alignedAs}
 use Rattle.calendar.specs.Size.{turn, spanOf}
 use Rattle.granules.specs.Valid.{Valid}
 use Rattle.granules.proofs.Tests.{none≢some}
-use Rattle.rows.specs.declared.Cursor.{Cursor}
-use Rattle.rows.specs.Cursor.{cursorAt}
+use Rattle.cursors.specs.declared.Cursor.{Cursor}
+use Rattle.cursors.specs.Cursor.{cursorAt}
 use Rattle.alignment.specs.Fits.{fits}
 use Rattle.alignment.specs.Pass.{RiseAlike}
 use Rattle.alignment.proofs.Pairs.{Labelled, Unlabelled}

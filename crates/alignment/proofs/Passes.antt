@@ -25,8 +25,8 @@ use Rattle.granules.proofs.Tests.{true≢false, false-iff, or-iff, isSome-iff}
 use Rattle.algebra.proofs.Span.{span-positive, rise-positive, repeats-left, repeats-right}
 use Rattle.algebra.proofs.Everywhere.{Near}
 use Rattle.algebra.proofs.OperandChecks.{aligned-iff}
-use Rattle.rows.specs.declared.Cursor.{Cursor}
-use Rattle.rows.specs.Cursor.{cursorAt}
+use Rattle.cursors.specs.declared.Cursor.{Cursor}
+use Rattle.cursors.specs.Cursor.{cursorAt}
 use Rattle.alignment.specs.Fits.{fits}
 use Rattle.alignment.specs.Pass.{RiseAlike}
 use Rattle.alignment.proofs.Pairs.{Pair, Pairs, Alike, Labelled, Unlabelled, pairs-unlabelled, pairs-turned, pairs-through, aligned-iff-near, near-pairs}

@@ -22,8 +22,8 @@ use Rattle.calendar.specs.Size.{turn, spanOf, rise}
 use Rattle.granules.specs.Valid.{Valid}
 use Rattle.granules.proofs.Tests.{eqb-iff, equal-iff, false-iff}
 use Rattle.algebra.proofs.Span.{span-positive, span-left, span-right}
-use Rattle.rows.specs.Found.{Sound}
-use Rattle.rows.proofs.Numbers.{numbers, valid}
+use Rattle.cursors.specs.Found.{Sound}
+use Rattle.cursors.proofs.Numbers.{numbers, valid}
 use Rattle.alignment.specs.Pass.{Limited}
 
 -- n·(s/p), scaled by p·q

@@ -5,7 +5,7 @@ ghost use mathlib.Core.Bool.{true};
 ghost use Rattle.calendar.specs.Operation.Alignment.{partition};
 ghost use Rattle.calendar.specs.Checks.{alignedAs};
 ghost use Rattle.calendar.specs.Questions.{given};
-ghost use Rattle.rows.specs.Found.{Sound};
+ghost use Rattle.cursors.specs.Found.{Sound};
 ghost use Rattle.alignment.specs.Pass.{Spanned, Whole};
 use super::comparing;
 
@@ -34,19 +34,19 @@ pub fn changes_with(
     requires { ⌜ Whole (given «b_period» «b_distance» (now «b_cells»)) ⌝ }
     ensures { λ r. ⌜ r ≡ alignedAs partition (given «a_period» «a_distance» (now («a_cells» .entry))) (given «b_period» «b_distance» (now («b_cells» .entry))) ⌝ }
 {
-    let mut a = rows::cursor_at(a_cells, a_period, a_distance, 0);
-    let mut b = rows::cursor_at(b_cells, b_period, b_distance, 0);
+    let mut a = cursors::cursor_at(a_cells, a_period, a_distance, 0);
+    let mut b = cursors::cursor_at(b_cells, b_period, b_distance, 0);
     let mut t = 0;
     loop {
-        let change = runs::next_change(b_cells, b_period, b_distance, b);
+        let change = strides::next_change(b_cells, b_period, b_distance, b);
         t += change.steps;
         if t > span {
             return true;
         }
-        let before = runs::cursor_on(a_cells, a_period, a_distance, a, change.steps - 1);
-        let o = rows::cursor_label(a_cells, a_period, a_distance, before);
-        a = rows::cursor_next(a_cells, a_period, a_distance, before);
-        let x = rows::cursor_label(a_cells, a_period, a_distance, a);
+        let before = strides::cursor_on(a_cells, a_period, a_distance, a, change.steps - 1);
+        let o = cursors::cursor_label(a_cells, a_period, a_distance, before);
+        a = cursors::cursor_next(a_cells, a_period, a_distance, before);
+        let x = cursors::cursor_label(a_cells, a_period, a_distance, a);
         if comparing::same(o, x) {
             return false;
         }

@@ -3,11 +3,11 @@
 ghost use mathlib.Core.Path.{_≡_};
 ghost use mathlib.Core.Bool.{_||_};
 ghost use Rattle.calendar.specs.Lists.{isSome, sameLabel};
-ghost use Rattle.rows.specs.Found.{found};
+ghost use Rattle.cursors.specs.Found.{found};
 ghost use Rattle.alignment.specs.Fits as Fits;
 ghost use Rattle.alignment.specs.Fits.{alignmentOf};
 use super::Alignment;
-use rows::Found;
+use cursors::Found;
 
 // Whether there is a label.
 fn labelled(x: Found) -> bool

@@ -6,12 +6,12 @@ ghost use Rattle.calendar.specs.Operation.Alignment.{partition, subcalendar, co
 ghost use Rattle.calendar.specs.Lists.{equal};
 ghost use Rattle.calendar.specs.Checks.{alignedAs};
 ghost use Rattle.calendar.specs.Questions.{given};
-ghost use Rattle.rows.specs.Found.{found, Sound};
+ghost use Rattle.cursors.specs.Found.{found, Sound};
 ghost use Rattle.alignment.specs.Codes.{codeOf, codedLabel};
 ghost use Rattle.alignment.specs.Fits.{alignmentOf};
 ghost use Rattle.alignment.specs.Pass.{Spanned, RiseAlike, Starts, Limited};
-use rows::Found;
-use scans::scan;
+use cursors::Found;
+use row_check::scan;
 
 mod changing;
 mod comparing;
@@ -75,13 +75,13 @@ fn aligned(
 {
     let mut t = labelled_instant(a_cells, a_period, a_distance);
     let end = t + span;
-    let mut a = rows::cursor_at(a_cells, a_period, a_distance, t);
-    let mut b = rows::cursor_at(b_cells, b_period, b_distance, t);
-    let mut o = coded(rows::cursor_label(a_cells, a_period, a_distance, a));
-    let mut p = coded(rows::cursor_label(b_cells, b_period, b_distance, b));
+    let mut a = cursors::cursor_at(a_cells, a_period, a_distance, t);
+    let mut b = cursors::cursor_at(b_cells, b_period, b_distance, t);
+    let mut o = coded(cursors::cursor_label(a_cells, a_period, a_distance, a));
+    let mut p = coded(cursors::cursor_label(b_cells, b_period, b_distance, b));
     loop {
-        let x = rows::cursor_label(a_cells, a_period, a_distance, a);
-        let y = rows::cursor_label(b_cells, b_period, b_distance, b);
+        let x = cursors::cursor_label(a_cells, a_period, a_distance, a);
+        let y = cursors::cursor_label(b_cells, b_period, b_distance, b);
         if comparing::either(x, y) {
             if !comparing::fits(k, decoded(o), decoded(p), x, y) {
                 return false;
@@ -93,8 +93,8 @@ fn aligned(
             return true;
         }
         t += 1;
-        a = rows::cursor_next(a_cells, a_period, a_distance, a);
-        b = rows::cursor_next(b_cells, b_period, b_distance, b);
+        a = cursors::cursor_next(a_cells, a_period, a_distance, a);
+        b = cursors::cursor_next(b_cells, b_period, b_distance, b);
     }
 }
 

@@ -5,7 +5,7 @@ use lib.Signed.{_≤ℤ_}
 use Rattle.calendar.specs.Meaning.{Row}
 use Rattle.calendar.specs.Compute.{anchored}
 use Rattle.calendar.specs.Checks.{poolLimit}
-use Rattle.rows.specs.Cursor.{cursorAt}
+use Rattle.cursors.specs.Cursor.{cursorAt}
 use Rattle.anchoring.specs.declared.Anchoring.{Anchoring}
 
 pub record Anchors (a b : Row) (t : ℤ) (s : Anchoring) : Type 0 where

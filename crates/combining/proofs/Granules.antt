@@ -17,14 +17,14 @@ use Rattle.calendar.specs.Compute.{result, cellOf}
 use Rattle.calendar.specs.Checks.{inRange}
 use Rattle.granules.specs.Valid.{Valid}
 use Rattle.granules.proofs.Tests.{true≢false}
-use Rattle.rows.specs.declared.Cursor.{Cursor}
-use Rattle.rows.specs.Cursor.{cursorAt}
+use Rattle.cursors.specs.declared.Cursor.{Cursor}
+use Rattle.cursors.specs.Cursor.{cursorAt}
 use Rattle.kinds.specs.declared.Kind.the-variants.{Combine}
-use Rattle.filling.proofs.Turns.{Lent, Turn, rowOf}
-use Rattle.stretches.specs.declared.Reached.{Reached}
-use Rattle.stretches.specs.Stretch.{Stretched, Led}
-use Rattle.stretches.proofs.Turns.{stretch-on, stretch-fresh, stretch-one}
-use Rattle.stretches.proofs.Stages.{Stage, stage-led, stage-next}
+use Rattle.fill_shared.proofs.Turns.{Lent, Turn, rowOf}
+use Rattle.fill_stretches.specs.declared.Reached.{Reached}
+use Rattle.fill_stretches.specs.Stretch.{Stretched, Led}
+use Rattle.fill_stretches.proofs.Turns.{stretch-on, stretch-fresh, stretch-one}
+use Rattle.fill_stretches.proofs.Stages.{Stage, stage-led, stage-next}
 use Rattle.combining.proofs.Lying.{combine-of, combined-same}
 
 -- the working row is filled up to p; the cursor of a is that of p, and a granule of b begins there if `fresh`

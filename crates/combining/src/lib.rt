@@ -9,26 +9,26 @@ ghost use Rattle.calendar.specs.Compute.{result};
 ghost use Rattle.calendar.specs.Lists.{first};
 ghost use Rattle.calendar.specs.Granules.{granule};
 ghost use Rattle.calendar.specs.Questions.{given};
-ghost use Rattle.rows.specs.Found.{found, Sound, Within};
-ghost use Rattle.rows.specs.Cursor.{cursorAt};
+ghost use Rattle.cursors.specs.Found.{found, Sound, Within};
+ghost use Rattle.cursors.specs.Cursor.{cursorAt};
 ghost use Rattle.kinds.specs.declared.Kind.the-variants.{Combine};
 ghost use Rattle.kinds.specs.Operations.{operationOf};
 ghost use Rattle.kinds.specs.Stands.{rowIn};
-ghost use Rattle.filling.specs.Given.{Given};
-ghost use Rattle.filling.specs.Placed.{Placed, over, Fills};
+ghost use Rattle.fill_shared.specs.Given.{Given};
+ghost use Rattle.fill_shared.specs.Placed.{Placed, over, Fills};
 ghost use Rattle.combining.specs.Lying.{liesAt};
-use filling::Filled;
-use filling::any;
-use filling::end_of;
-use filling::outcome;
+use fill_shared::Filled;
+use fill_shared::any;
+use fill_shared::end_of;
+use fill_shared::outcome;
 use kinds::Operand;
-use rows::Cursor;
-use rows::Found;
-use stretches::cell_of;
-use stretches::fill_leading;
-use stretches::fill_stretch;
-use stretches::in_limits;
-use walks::Place;
+use cursors::Cursor;
+use cursors::Found;
+use fill_stretches::cell_of;
+use fill_stretches::fill_leading;
+use fill_stretches::fill_stretch;
+use fill_stretches::in_limits;
+use containment::Place;
 
 // Whether b's granule k lies in a's granule of t, which is one of its instants: its first one, where it is fresh.
 fn lies(
@@ -53,13 +53,13 @@ fn lies(
     requires { ⌜ (fresh ≡ true → t ≡ first (granule (given «b_period» «b_distance» (now «b_cells»)) k)) ⌝ }
     ensures { λ r. ⌜ r ≡ liesAt (given «a_period» «a_distance» (now («a_cells» .entry))) (given «b_period» «b_distance» (now («b_cells» .entry))) k t ⌝ }
 {
-    let outer = rows::cursor_label(a_cells, a_period, a_distance, a);
+    let outer = cursors::cursor_label(a_cells, a_period, a_distance, a);
     let Found::At(i) = outer else {
         return false;
     };
     let place = Place { b, k, a, i };
     if fresh {
-        walks::inside_from_first(
+        containment::inside_from_first(
             b_cells,
             b_period,
             b_distance,
@@ -69,7 +69,7 @@ fn lies(
             place,
         )
     } else {
-        walks::inside_at(
+        containment::inside_at(
             b_cells,
             b_period,
             b_distance,
@@ -117,7 +117,7 @@ fn combined(
         b_period,
         b_distance,
     ) {
-        rows::cursor_label(a_cells, a_period, a_distance, a)
+        cursors::cursor_label(a_cells, a_period, a_distance, a)
     } else {
         Found::Nothing
     }
@@ -145,7 +145,7 @@ pub fn fill_combine(
     let b_period = b.period;
     let b_distance = b.distance;
     let mut reached = fill_leading(at, period, &mut *pool, b_start, b_end, b_period, b_distance);
-    let mut a_cursor = rows::cursor_at(
+    let mut a_cursor = cursors::cursor_at(
         &pool[a_start..a_end],
         a_period,
         a_distance,
@@ -154,7 +154,7 @@ pub fn fill_combine(
     let mut fresh = false;
     let mut labelled = false;
     while reached.t < period {
-        let k = rows::label_of(&pool[b_start..b_end], b_period, b_distance, reached.cursor);
+        let k = cursors::label_of(&pool[b_start..b_end], b_period, b_distance, reached.cursor);
         let label = combined(
             fresh,
             k,
@@ -183,7 +183,7 @@ pub fn fill_combine(
             b_period,
             b_distance,
         );
-        a_cursor = runs::cursor_on(
+        a_cursor = strides::cursor_on(
             &pool[a_start..a_end],
             a_period,
             a_distance,

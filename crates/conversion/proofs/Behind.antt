@@ -21,12 +21,12 @@ use Rattle.algebra.proofs.Operations.{operands-weaken, operands-map, factor-map
 use Rattle.algebra.proofs.Answered.{converted-sound}
 use Rattle.algebra.proofs.Named.{named-operation}
 use Rattle.algebra.proofs.Steps.{judged-is}
-use Rattle.entering.specs.declared.Entry as Code
-use Rattle.entering.specs.declared.Entry.the-variants.{Refused, Ends}
-use Rattle.entering.specs.Stores.{Stores, Entered}
-use Rattle.entering.specs.Entering.{Added, Became}
-use Rattle.entering.proofs.Cells.{drop-alike}
-use Rattle.entering.proofs.AtRows.{getD-mem}
+use Rattle.row_entry.specs.declared.Entry as Code
+use Rattle.row_entry.specs.declared.Entry.the-variants.{Refused, Ends}
+use Rattle.row_entry.specs.Stores.{Stores, Entered}
+use Rattle.row_entry.specs.Entering.{Added, Became}
+use Rattle.row_entry.proofs.Cells.{drop-alike}
+use Rattle.row_entry.proofs.AtRows.{getD-mem}
 use Rattle.conversion.proofs.Headings.{headings-length}
 
 -- ---- the row of an entry that is answered

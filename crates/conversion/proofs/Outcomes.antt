@@ -21,8 +21,8 @@ use Rattle.granules.proofs.Tests.{and-iff, eqb-iff, leb-iff}
 use Rattle.granules.proofs.Sound.{sound-valid}
 use Rattle.algebra.proofs.Operations.{require-answer}
 use Rattle.algebra.proofs.Steps.{afterEntry, entries-zero, entries-suc, afterTable, outcome-is}
-use Rattle.entering.specs.declared.Entry.the-variants as Entry
-use Rattle.entering.specs.Stores.{Stores, EntryDue, Entered}
+use Rattle.row_entry.specs.declared.Entry.the-variants as Entry
+use Rattle.row_entry.specs.Stores.{Stores, EntryDue, Entered}
 use Rattle.conversion.specs.declared.Conversion.{Conversion}
 use Rattle.conversion.specs.declared.Conversion.the-variants as Conversion
 use Rattle.conversion.specs.Tables.{Cleared, TableDue, Ended}

@@ -7,7 +7,7 @@ ghost use lib.ListN.{length, take, replicate};
 ghost use Rattle.calendar.specs.Meaning.{Row, empty};
 ghost use Rattle.calendar.specs.Table.{entries, outcome};
 ghost use Rattle.calendar.specs.Stored.{filled, poolAfter, headingsAfter};
-ghost use Rattle.entering.specs.Stores.{Stores, EntryDue, Entered};
+ghost use Rattle.row_entry.specs.Stores.{Stores, EntryDue, Entered};
 ghost use Rattle.conversion.specs.Answers.{answered};
 ghost use Rattle.conversion.specs.Tables.{Cleared, TableDue, Ended};
 use calendar::Calendar;
@@ -15,10 +15,10 @@ use entries::Begun;
 use entries::Reading;
 
 // How many numbers a heading has: start, period and distance.
-pub use entering::HEADING_LENGTH;
+pub use row_entry::HEADING_LENGTH;
 
 // What converting one entry comes to: a refusal, by its number, or its row ends before that cell.
-pub use entering::Entry;
+pub use row_entry::Entry;
 
 // What converting a table comes to: a refusal, by its number and its entry (0 for 1 to 3), or rows and headings stand in the lists.
 pub enum Conversion {
@@ -42,7 +42,7 @@ pub fn convert_entry(
     let reading = entries::read(e, k);
     match reading {
         Reading::Refused(n) => Entry::Refused(n),
-        Reading::Named => entering::enter_named(e, k, used, headings, pool),
+        Reading::Named => row_entry::enter_named(e, k, used, headings, pool),
     }
 }
 

@@ -19,9 +19,9 @@ use Rattle.calendar.specs.Checks.{labelsOf}
 use Rattle.granules.proofs.Tests.{equal-iff, false-iff, leZ-iff, ltZ-iff, some-inj, none≢some}
 use Rattle.granules.proofs.Lists.{prefix}
 use Rattle.granules.proofs.Rows.{labels-cons, labels-skip}
-use Rattle.scans.specs.Order.{risen}
+use Rattle.row_check.specs.Order.{risen}
 use Rattle.counts.specs.Labels.{rises, greatest}
-use Rattle.rows.proofs.Cells.{empty-iff}
+use Rattle.cursors.proofs.Cells.{empty-iff}
 
 module _ (cells : List ℤ) (i : ℕ) (d : ℤ) (here : i < length cells) where
   -- the cell at i, and those behind it

@@ -28,16 +28,16 @@ use Rattle.granules.proofs.Tests.{true≢false, decided, equal-iff, ltZ-iff, no
 use Rattle.granules.proofs.Lists.{mem-from, mem-keep, rising-from, rising-keep, rising-head, rising-tail, distinct-lists}
 use Rattle.granules.proofs.Rows.{meant-some, meant-cell, cell-meant, labels-mem, mem-labels, label-index}
 use Rattle.granules.proofs.Count.{granules-count, granules-at-most}
-use Rattle.rows.specs.Found.{Sound}
-use Rattle.rows.specs.Search.{leading}
-use Rattle.scans.specs.Order.{risen, labelsSound}
+use Rattle.cursors.specs.Found.{Sound}
+use Rattle.cursors.specs.Search.{leading}
+use Rattle.row_check.specs.Order.{risen, labelsSound}
 use Rattle.counts.specs.Labels.{rises, greatest}
-use Rattle.rows.proofs.Numbers.{Numbers, numbers, valid}
-use Rattle.rows.proofs.Search.{run-cons, run-fails}
-use Rattle.rows.proofs.Cells.{label-full, empty-iff}
-use Rattle.rows.proofs.Bounds.{cell-bound}
-use Rattle.scans.proofs.Order.{labels-range, sound-falls, sound-rises, labels-left}
-use Rattle.scans.proofs.Instants.{Cells, first-cell, rest, own-cells, has-label}
+use Rattle.cursors.proofs.Numbers.{Numbers, numbers, valid}
+use Rattle.cursors.proofs.Search.{run-cons, run-fails}
+use Rattle.cursors.proofs.Cells.{label-full, empty-iff}
+use Rattle.cursors.proofs.Bounds.{cell-bound}
+use Rattle.row_check.proofs.Order.{labels-range, sound-falls, sound-rises, labels-left}
+use Rattle.row_check.proofs.Instants.{Cells, first-cell, rest, own-cells, has-label}
 use Rattle.counts.proofs.Counts.{distinct-same, counted-is}
 
 -- ---- a rising list with none above b, and those of it that are below b

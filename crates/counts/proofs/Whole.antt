@@ -19,10 +19,10 @@ use Rattle.calendar.specs.Checks.{labelsOf}
 use Rattle.granules.proofs.Tests.{equal-iff, false-iff, leZ-iff, ltZ-iff, some-inj, none≢some}
 use Rattle.granules.proofs.Equal.{cell-cases}
 use Rattle.granules.proofs.Rows.{labels-cons, labels-skip}
-use Rattle.rows.specs.Search.{run, leading}
-use Rattle.rows.proofs.Search.{run-cons}
-use Rattle.rows.proofs.Cells.{empty-iff}
-use Rattle.scans.specs.Order.{risen}
+use Rattle.cursors.specs.Search.{run, leading}
+use Rattle.cursors.proofs.Search.{run-cons}
+use Rattle.cursors.proofs.Cells.{empty-iff}
+use Rattle.row_check.specs.Order.{risen}
 use Rattle.counts.specs.Labels.{rises, differing}
 use Rattle.counts.proofs.Counts.{rises-cons}
 

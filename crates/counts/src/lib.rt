@@ -8,11 +8,11 @@ ghost use Rattle.calendar.specs.Meaning.{empty};
 ghost use Rattle.calendar.specs.Granules as G;
 ghost use Rattle.calendar.specs.Checks as C;
 ghost use Rattle.calendar.specs.Questions.{given};
-ghost use Rattle.rows.specs.Found.{Sound};
-ghost use Rattle.rows.specs.Search.{leading};
+ghost use Rattle.cursors.specs.Found.{Sound};
+ghost use Rattle.cursors.specs.Search.{leading};
 ghost use Rattle.counts.specs.Labels.{differing, counted};
 use calendar::Calendar;
-use scans::scan;
+use row_check::scan;
 
 // The labels of a row: how many different ones there are, and the last.
 struct Labels {

@@ -19,8 +19,8 @@ use Rattle.granules.proofs.Lists.{first-least, last-greatest}
 use Rattle.granules.proofs.Calendars.{label-moved}
 use Rattle.granules.proofs.Rows.{meant-repeats}
 use Rattle.granules.proofs.Granule.{granule-lists}
-use Rattle.rows.specs.declared.Cursor.{Cursor}
-use Rattle.rows.specs.Cursor.{cursorAt}
+use Rattle.cursors.specs.declared.Cursor.{Cursor}
+use Rattle.cursors.specs.Cursor.{cursorAt}
 
 -- a walk back from t, whose label is j: it stands at u, and e is the first instant with that label from u on
 pub record Back (r : Row) (t j : ℤ) (c : Cursor) (u e : ℤ) : Type 0 where

@@ -7,8 +7,8 @@ ghost use Rattle.calendar.specs.Meaning.{meant};
 ghost use Rattle.calendar.specs.Lists.{first, last};
 ghost use Rattle.calendar.specs.Granules.{granule};
 ghost use Rattle.calendar.specs.Questions.{given};
-ghost use Rattle.rows.specs.Found.{Sound, Labelled};
-use rows::Found;
+ghost use Rattle.cursors.specs.Found.{Sound, Labelled};
+use cursors::Found;
 
 // The first instant of the granule of t: back from t, past instants with no label, until another label shows.
 pub fn first_instant(cells: &[i32], period: i64, distance: i64, t: i64) -> i64
@@ -16,17 +16,17 @@ pub fn first_instant(cells: &[i32], period: i64, distance: i64, t: i64) -> i64
     requires { ⌜ Labelled (given period distance (now cells)) t ⌝ }
     ensures { λ r. ⌜ ((j : ℤ) → meant (given period distance (now (cells .entry))) t ≡ some j → r ≡ first (granule (given period distance (now (cells .entry))) j)) ⌝ }
 {
-    let mut c = rows::cursor_at(cells, period, distance, t);
-    let own = rows::cursor_label(cells, period, distance, c);
+    let mut c = cursors::cursor_at(cells, period, distance, t);
+    let own = cursors::cursor_label(cells, period, distance, c);
     let Found::At(j) = own else {
         return t;
     };
     let mut at = t;
     let mut first = t;
     loop {
-        c = rows::cursor_back(cells, period, distance, c);
+        c = cursors::cursor_back(cells, period, distance, c);
         at -= 1;
-        let label = rows::cursor_label(cells, period, distance, c);
+        let label = cursors::cursor_label(cells, period, distance, c);
         match label {
             Found::At(k) => {
                 if k != j {
@@ -45,17 +45,17 @@ pub fn last_instant(cells: &[i32], period: i64, distance: i64, t: i64) -> i64
     requires { ⌜ Labelled (given period distance (now cells)) t ⌝ }
     ensures { λ r. ⌜ ((j : ℤ) → meant (given period distance (now (cells .entry))) t ≡ some j → r ≡ last (granule (given period distance (now (cells .entry))) j)) ⌝ }
 {
-    let mut c = rows::cursor_at(cells, period, distance, t);
-    let own = rows::cursor_label(cells, period, distance, c);
+    let mut c = cursors::cursor_at(cells, period, distance, t);
+    let own = cursors::cursor_label(cells, period, distance, c);
     let Found::At(j) = own else {
         return t;
     };
     let mut at = t;
     let mut last = t;
     loop {
-        c = rows::cursor_next(cells, period, distance, c);
+        c = cursors::cursor_next(cells, period, distance, c);
         at += 1;
-        let label = rows::cursor_label(cells, period, distance, c);
+        let label = cursors::cursor_label(cells, period, distance, c);
         match label {
             Found::At(k) => {
                 if k != j {

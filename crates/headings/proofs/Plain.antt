@@ -22,10 +22,10 @@ use Rattle.algebra.specs.TableMeaning.TableReply.{means}
 use Rattle.algebra.proofs.Demand2.{demand-2-only, represents-length}
 use Rattle.algebra.proofs.Steps.{afterTable, outcome-is}
 use Rattle.laws.proofs.Answered.{stored-means}
-use Rattle.entering.proofs.Cells.{drop-alike}
+use Rattle.row_entry.proofs.Cells.{drop-alike}
 use Rattle.conversion.proofs.Headings.{filled-behind, headings-length}
 use Rattle.conversion.proofs.LeftRows.{means-length}
-use Rattle.walked.specs.Tabled.{tabled}
+use Rattle.hand_proofs.specs.Tabled.{tabled}
 use Rattle.headings.specs.declared.Heading.{Heading}
 use Rattle.headings.specs.Records.{recordsFrom, noHeading, recordsAfter, recordAt, recordsOf}
 

@@ -4,7 +4,7 @@ use lib.IntN.{ℤ, pos}
 use lib.Signed.{_≤ℤ_}
 use Rattle.calendar.specs.Meaning.{Row}
 use Rattle.calendar.specs.Checks.{poolLimit}
-use Rattle.rows.specs.Cursor.{cursorAt}
+use Rattle.cursors.specs.Cursor.{cursorAt}
 use Rattle.joining.specs.declared.Joining.{Joining}
 
 pub record Joins (a b : Row) (t : ℤ) (s : Joining) : Type 0 where

@@ -7,23 +7,23 @@ ghost use lib.Signed.{_<ℤ_};
 ghost use Rattle.calendar.specs.Checks.{poolLimit};
 ghost use Rattle.calendar.specs.Compute.{result};
 ghost use Rattle.calendar.specs.Questions.{given};
-ghost use Rattle.rows.specs.Found.{found};
+ghost use Rattle.cursors.specs.Found.{found};
 ghost use Rattle.kinds.specs.declared.Kind.the-variants.{ByLabels};
 ghost use Rattle.kinds.specs.Operations.{operationOf};
 ghost use Rattle.kinds.specs.Stands.{rowIn};
-ghost use Rattle.filling.specs.Given.{Given};
-ghost use Rattle.filling.specs.Placed.{Placed, over, Fills};
+ghost use Rattle.fill_shared.specs.Given.{Given};
+ghost use Rattle.fill_shared.specs.Placed.{Placed, over, Fills};
 ghost use Rattle.joining.specs.Joined.{joinedLabel};
 ghost use Rattle.joining.specs.Scanning.{Joins};
-use filling::Filled;
-use filling::any;
-use filling::end_of;
-use filling::outcome;
-use filling::store;
+use fill_shared::Filled;
+use fill_shared::any;
+use fill_shared::end_of;
+use fill_shared::outcome;
+use fill_shared::store;
 use kinds::Operand;
 use kinds::SetOperation;
-use rows::Cursor;
-use rows::Found;
+use cursors::Cursor;
+use cursors::Found;
 
 // What the loop carries: the cursors of the instant.
 pub struct Joining {
@@ -75,11 +75,11 @@ fn by_labels(
     ensures label { λ r. ⌜ found (r .label) ≡ result (operationOf (ByLabels by) (given «a_period» «a_distance» (now («a_cells» .entry))) (given «b_period» «b_distance» (now («b_cells» .entry)))) t ⌝ }
     ensures next { λ r. ⌜ Joins (given «a_period» «a_distance» (now («a_cells» .entry))) (given «b_period» «b_distance» (now («b_cells» .entry))) (t +ℤ pos 1) (r .next) ⌝ }
 {
-    let label = rows::cursor_label(a_cells, a_period, a_distance, s.a);
-    let other = rows::cursor_label(b_cells, b_period, b_distance, s.b);
+    let label = cursors::cursor_label(a_cells, a_period, a_distance, s.a);
+    let other = cursors::cursor_label(b_cells, b_period, b_distance, s.b);
     let mut next = s;
-    next.a = rows::cursor_next(a_cells, a_period, a_distance, s.a);
-    next.b = rows::cursor_next(b_cells, b_period, b_distance, s.b);
+    next.a = cursors::cursor_next(a_cells, a_period, a_distance, s.a);
+    next.b = cursors::cursor_next(b_cells, b_period, b_distance, s.b);
     Stepped {
         label: joined(by, label, other),
         next: next,
@@ -108,8 +108,8 @@ pub fn fill_by_labels(
     let b_end = end_of(b, at);
     let b_period = b.period;
     let b_distance = b.distance;
-    let c = rows::cursor_at(&pool[a_start..a_end], a_period, a_distance, 0);
-    let d = rows::cursor_at(&pool[b_start..b_end], b_period, b_distance, 0);
+    let c = cursors::cursor_at(&pool[a_start..a_end], a_period, a_distance, 0);
+    let d = cursors::cursor_at(&pool[b_start..b_end], b_period, b_distance, 0);
     let mut s = Joining { a: c, b: d };
     let mut labelled = false;
     let mut t = 0;

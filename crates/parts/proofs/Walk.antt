@@ -19,8 +19,8 @@ use Rattle.granules.proofs.Tests.{some-inj, none≢some, decided, is-iff}
 use Rattle.granules.proofs.Lists.{rising-cons, rising-head, rising-tail}
 use Rattle.granules.proofs.Calendars.{label-moved}
 use Rattle.granules.proofs.Rows.{meant-repeats}
-use Rattle.rows.specs.declared.Cursor.{Cursor}
-use Rattle.rows.specs.Cursor.{cursorAt}
+use Rattle.cursors.specs.declared.Cursor.{Cursor}
+use Rattle.cursors.specs.Cursor.{cursorAt}
 use Rattle.parts.specs.Walk.{Begins, Greatest}
 use Rattle.parts.proofs.Shown.{Shows}
 use Rattle.parts.proofs.WalkGaps.{ahead, falls}

@@ -20,8 +20,8 @@ use Rattle.granules.proofs.Tests.{some-inj, none≢some, false-iff}
 use Rattle.granules.proofs.Lists.{lists-unique}
 use Rattle.granules.proofs.Inside.{within-lists}
 use Rattle.granules.proofs.Questions.{madeUp-iff}
-use Rattle.rows.specs.declared.Cursor.{Cursor}
-use Rattle.rows.specs.Cursor.{cursorAt}
+use Rattle.cursors.specs.declared.Cursor.{Cursor}
+use Rattle.cursors.specs.Cursor.{cursorAt}
 use Rattle.parts.specs.declared.Part.the-variants.{Broken}
 use Rattle.parts.specs.declared.Walked.{Walked}
 use Rattle.parts.specs.declared.Walked.the-variants.{Parts, Incomplete}

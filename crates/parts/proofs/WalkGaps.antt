@@ -16,10 +16,10 @@ use Rattle.granules.specs.Valid.{Valid}
 use Rattle.granules.proofs.Tests.{none≢some}
 use Rattle.granules.proofs.Calendars.{labelled-near}
 use Rattle.granules.proofs.Rows.{meant-repeats}
-use Rattle.rows.specs.declared.Cursor.{Cursor}
-use Rattle.rows.specs.Found.{Within}
-use Rattle.rows.specs.Cursor.{cursorAt}
-use Rattle.walks.proofs.Places.{instant-is}
+use Rattle.cursors.specs.declared.Cursor.{Cursor}
+use Rattle.cursors.specs.Found.{Within}
+use Rattle.cursors.specs.Cursor.{cursorAt}
+use Rattle.containment.proofs.Places.{instant-is}
 use Rattle.parts.specs.Walk.{Placed, Greatest, Least}
 
 -- back from s: it stands at u, and no instant behind u up to s has a label

@@ -11,10 +11,10 @@ use lib.ListN.{length, getD}
 use Rattle.calendar.specs.Meaning.{Row, meant}
 use Rattle.calendar.specs.Granules.{within}
 use Rattle.calendar.specs.Questions.{madeUp}
-use Rattle.rows.specs.declared.Cursor.{Cursor}
-use Rattle.rows.specs.Found.{Within}
-use Rattle.rows.specs.Cursor.{cursorAt}
-use Rattle.walks.specs.Places.{instant}
+use Rattle.cursors.specs.declared.Cursor.{Cursor}
+use Rattle.cursors.specs.Found.{Within}
+use Rattle.cursors.specs.Cursor.{cursorAt}
+use Rattle.containment.specs.Places.{instant}
 use Rattle.parts.specs.declared.Part as Part
 use Rattle.parts.specs.declared.Walked as Walked
 

@@ -4,11 +4,11 @@ ghost use mathlib.Core.Path.{_≡_};
 ghost use lib.IntN.{pos};
 ghost use lib.ListN.{length, replicate};
 ghost use Rattle.calendar.specs.Questions.{given};
-ghost use Rattle.rows.specs.Found.{found, Sound};
-ghost use Rattle.walks.specs.Places.{instant};
+ghost use Rattle.cursors.specs.Found.{found, Sound};
+ghost use Rattle.containment.specs.Places.{instant};
 ghost use Rattle.parts.specs.Walk.{Begins, Placed, Greatest, PartAt, EndAt, Walks};
-use rows::Cursor;
-use rows::Found;
+use cursors::Cursor;
+use cursors::Found;
 
 // What an instant says of the parts of a granule: none begins there, it is in a gap of the granule and has this label, the next part begins there,
 // the granule is over, or the parts do not make it up.
@@ -34,11 +34,11 @@ fn label_up_to(cells: &[i32], period: i64, distance: i64, from: Cursor) -> i64
 {
     let mut c = from;
     loop {
-        let label = rows::cursor_label(cells, period, distance, c);
+        let label = cursors::cursor_label(cells, period, distance, c);
         if let Found::At(j) = label {
             return j;
         }
-        c = rows::cursor_back(cells, period, distance, c);
+        c = cursors::cursor_back(cells, period, distance, c);
     }
 }
 
@@ -58,14 +58,14 @@ fn ended(
 {
     let mut c = from;
     loop {
-        let label = rows::cursor_label(cells, period, distance, c);
+        let label = cursors::cursor_label(cells, period, distance, c);
         if let Found::At(k) = label {
             if k == latest {
                 return Walked::Incomplete;
             }
             return Walked::Parts(count);
         }
-        c = rows::cursor_next(cells, period, distance, c);
+        c = cursors::cursor_next(cells, period, distance, c);
     }
 }
 
@@ -119,16 +119,16 @@ pub fn parts_of(
     ensures { λ r. ⌜ Walks (given «h_period» «h_distance» (now («h_cells» .entry))) (given «g_period» «g_distance» (now («g_cells» .entry))) z (now (parts .exit)) r ⌝ }
 {
     let before = first - 1;
-    let mut h = rows::cursor_at(h_cells, h_period, h_distance, before);
-    let mut g = rows::cursor_at(g_cells, g_period, g_distance, before);
+    let mut h = cursors::cursor_at(h_cells, h_period, h_distance, before);
+    let mut g = cursors::cursor_at(g_cells, g_period, g_distance, before);
     let mut outside = label_up_to(g_cells, g_period, g_distance, g);
     let mut latest = outside;
     let mut count: usize = 0;
     loop {
-        h = rows::cursor_next(h_cells, h_period, h_distance, h);
-        g = rows::cursor_next(g_cells, g_period, g_distance, g);
-        let own = rows::cursor_label(h_cells, h_period, h_distance, h);
-        let label = rows::cursor_label(g_cells, g_period, g_distance, g);
+        h = cursors::cursor_next(h_cells, h_period, h_distance, h);
+        g = cursors::cursor_next(g_cells, g_period, g_distance, g);
+        let own = cursors::cursor_label(h_cells, h_period, h_distance, h);
+        let label = cursors::cursor_label(g_cells, g_period, g_distance, g);
         let part = part_at(z, own, label, outside, latest);
         match part {
             Part::Next(k) => {

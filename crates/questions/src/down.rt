@@ -9,7 +9,7 @@ ghost use Rattle.questions.specs.Answers.{partsReply, counted, partsAfte
 use calendar::Calendar;
 use calendar::Refusal;
 use parts::Walked;
-use rows::Found;
+use cursors::Found;
 
 // How many parts there are.
 pub enum Parted {
@@ -44,16 +44,16 @@ pub fn down(
     ensures list { λ r. ⌜ now (parts .exit) ≡ partsAfter (length (now (parts .entry))) (Q.down (given «h_period» «h_distance» (now («h_cells» .entry))) (given «g_period» «g_distance» (now («g_cells» .entry))) z (length (now (parts .entry)))) ⌝ }
 {
     clear(&mut *parts);
-    if !scans::sound(h_cells, h_period, h_distance) {
+    if !row_check::sound(h_cells, h_period, h_distance) {
         return Parted::Refused(Refusal::RowNotSound);
     }
-    if !scans::sound(g_cells, g_period, g_distance) {
+    if !row_check::sound(g_cells, g_period, g_distance) {
         return Parted::Refused(Refusal::RowNotSound);
     }
     if !Calendar::in_range(z) {
         return Parted::Refused(Refusal::ArgumentOutsideLimits);
     }
-    let instant = scans::instant_of(h_cells, h_period, h_distance, z);
+    let instant = row_check::instant_of(h_cells, h_period, h_distance, z);
     let Found::At(t) = instant else {
         return Parted::Refused(Refusal::NotALabel);
     };

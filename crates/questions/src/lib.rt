@@ -14,13 +14,13 @@ ghost use Rattle.calendar.specs.Checks.{between};
 ghost use Rattle.calendar.specs.Questions as Q;
 ghost use Rattle.calendar.specs.Questions.{given, upFromInstant, upFromGranule};
 ghost use Rattle.floats.specs.Allowance as F;
-ghost use Rattle.rows.specs.Found.{Sound, Within, Labelled};
+ghost use Rattle.cursors.specs.Found.{Sound, Within, Labelled};
 ghost use Rattle.questions.specs.Answers.{upReply, FiguresOf, lateLimit, lateReply, mayBeLate};
 use calendar::Calendar;
 use calendar::Refusal;
 use floats::Allowance;
 use floats::Figures;
-use rows::Found;
+use cursors::Found;
 
 pub mod down;
 
@@ -46,13 +46,13 @@ pub enum Late {
 pub fn up_instant(t: i64, cells: &[i32], period: i64, distance: i64) -> Up
     ensures { λ r. ⌜ upReply r ≡ upFromInstant (given period distance (now (cells .entry))) t ⌝ }
 {
-    if !scans::sound(cells, period, distance) {
+    if !row_check::sound(cells, period, distance) {
         return Up::Refused(Refusal::RowNotSound);
     }
     if !Calendar::in_range(t) {
         return Up::Refused(Refusal::ArgumentOutsideLimits);
     }
-    let label = rows::label_at(cells, period, distance, t);
+    let label = cursors::label_at(cells, period, distance, t);
     match label {
         Found::At(j) => Up::Label(j),
         Found::Nothing => Up::Nothing,
@@ -72,20 +72,20 @@ pub fn up_granule(
 ) -> Up
     ensures { λ r. ⌜ upReply r ≡ upFromGranule (given «g_period» «g_distance» (now («g_cells» .entry))) (given «h_period» «h_distance» (now («h_cells» .entry))) z ⌝ }
 {
-    if !scans::sound(g_cells, g_period, g_distance) {
+    if !row_check::sound(g_cells, g_period, g_distance) {
         return Up::Refused(Refusal::RowNotSound);
     }
-    if !scans::sound(h_cells, h_period, h_distance) {
+    if !row_check::sound(h_cells, h_period, h_distance) {
         return Up::Refused(Refusal::RowNotSound);
     }
     if !Calendar::in_range(z) {
         return Up::Refused(Refusal::ArgumentOutsideLimits);
     }
-    let at = scans::instant_of(g_cells, g_period, g_distance, z);
+    let at = row_check::instant_of(g_cells, g_period, g_distance, z);
     let Found::At(t) = at else {
         return Up::Refused(Refusal::NotALabel);
     };
-    let label = walks::holder(
+    let label = containment::holder(
         g_cells,
         g_period,
         g_distance,
@@ -104,7 +104,7 @@ pub fn up_granule(
 pub fn figures(cells: &[i32], period: i64, distance: i64) -> Figured
     ensures { λ r. ⌜ FiguresOf (given period distance (now (cells .entry))) r ⌝ }
 {
-    if !scans::sound(cells, period, distance) {
+    if !row_check::sound(cells, period, distance) {
         return Figured::Refused(Refusal::RowNotSound);
     }
     let labelled = counts::labelled_instants(cells);
@@ -142,7 +142,7 @@ fn judged(z: i64, d: i64, allowance: Allowance, cells: &[i32], period: i64, dist
     requires { ⌜ F.isAllowed allowance ≡ true ⌝ }
     ensures { λ r. ⌜ lateReply r ≡ require 15 (has (given period distance (now (cells .entry))) z) (answer (F.mayBeLate (up d) (Q.extent (given period distance (now (cells .entry))) z) allowance)) ⌝ }
 {
-    let at = scans::instant_of(cells, period, distance, z);
+    let at = row_check::instant_of(cells, period, distance, z);
     let Found::At(t) = at else {
         return Late::Refused(Refusal::NotALabel);
     };
@@ -166,7 +166,7 @@ pub fn may_be_late(
 ) -> Late
     ensures { λ r. ⌜ lateReply r ≡ mayBeLate (given period distance (now (cells .entry))) z d allowance ⌝ }
 {
-    if !scans::sound(cells, period, distance) {
+    if !row_check::sound(cells, period, distance) {
         return Late::Refused(Refusal::RowNotSound);
     }
     if !Calendar::in_range(z) {

@@ -28,9 +28,9 @@ use denote.Slice.{ShrSlice, sliceVal, sliceTy}
 use denote.Steps.{only}
 use denote.Struct.Field.{rows}
 use denote.Struct.Rest.{own-open, own-shut}
-use Rattle.walked.proofs.Params.{Known, number, cells, struct}
-use Rattle.walked.proofs.Owned.{ownsThen, last, unlast}
-use Rattle.walked.proofs.Passed.{IsOf}
+use Rattle.hand_proofs.proofs.Params.{Known, number, cells, struct}
+use Rattle.hand_proofs.proofs.Owned.{ownsThen, last, unlast}
+use Rattle.hand_proofs.proofs.Passed.{IsOf}
 use Rattle.reader.specs.declared.Reader.{Reader}
 use Rattle.reader.proofs.Reader as T
 use Rattle.reader.proofs.Reader.Laws as T′

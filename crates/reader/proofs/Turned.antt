@@ -8,7 +8,7 @@ use prog.Wp.{Heap}
 use ghost.Atoms.{Atoms}
 use contract.Lifetimes.{Lfts, Shares, toks}
 use types.Kit.{Given, ‵, _$_, _∵_, !, qed, move, done}
-use Rattle.walked.proofs.Passed.{Lifetimes}
+use Rattle.hand_proofs.proofs.Passed.{Lifetimes}
 
 -- the last one first
 abbrev lft : Lfts 3 → Lfts 3

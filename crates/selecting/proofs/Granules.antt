@@ -18,21 +18,21 @@ use Rattle.calendar.specs.Compute.{result, selects, cellOf}
 use Rattle.calendar.specs.Checks.{inRange}
 use Rattle.granules.specs.Valid.{Valid}
 use Rattle.granules.proofs.Tests.{true≢false}
-use Rattle.rows.specs.declared.Cursor.{Cursor}
-use Rattle.rows.specs.Cursor.{cursorAt}
+use Rattle.cursors.specs.declared.Cursor.{Cursor}
+use Rattle.cursors.specs.Cursor.{cursorAt}
 use Rattle.kinds.specs.declared.Selection.{Selection}
 use Rattle.kinds.specs.declared.Selection.the-variants.{Down, Up, Intersecting}
-use Rattle.selections.specs.declared.Picked.{Picked}
-use Rattle.selections.specs.declared.Decision.{Decision}
+use Rattle.select_granules.specs.declared.Picked.{Picked}
+use Rattle.select_granules.specs.declared.Decision.{Decision}
 use Rattle.kinds.specs.Operations.{selectionOf}
-use Rattle.selections.specs.Memos.{flagOf, Remembers}
-use Rattle.selections.specs.Deciding.{Decides}
+use Rattle.select_granules.specs.Memos.{flagOf, Remembers}
+use Rattle.select_granules.specs.Deciding.{Decides}
 use Rattle.kinds.specs.declared.Kind.the-variants.{Select}
-use Rattle.filling.proofs.Turns.{Lent, Turn, rowOf}
-use Rattle.stretches.specs.declared.Reached.{Reached}
-use Rattle.stretches.specs.Stretch.{Stretched, Led}
-use Rattle.stretches.proofs.Turns.{stretch-on, stretch-fresh, stretch-one}
-use Rattle.stretches.proofs.Stages.{Stage, stage-led, stage-next}
+use Rattle.fill_shared.proofs.Turns.{Lent, Turn, rowOf}
+use Rattle.fill_stretches.specs.declared.Reached.{Reached}
+use Rattle.fill_stretches.specs.Stretch.{Stretched, Led}
+use Rattle.fill_stretches.proofs.Turns.{stretch-on, stretch-fresh, stretch-one}
+use Rattle.fill_stretches.proofs.Stages.{Stage, stage-led, stage-next}
 
 -- ---- the label
 

@@ -4,22 +4,22 @@ ghost use mathlib.Core.Path.{_≡_};
 ghost use mathlib.Core.Bool.{true};
 ghost use lib.IntN.{pos};
 ghost use Rattle.calendar.specs.Lists.{only, equal};
-ghost use Rattle.rows.specs.Found.{found};
+ghost use Rattle.cursors.specs.Found.{found};
 ghost use Rattle.kinds.specs.declared.Kind.the-variants.{Select};
 ghost use Rattle.kinds.specs.Stands.{rowIn};
-ghost use Rattle.filling.specs.Given.{Given};
-ghost use Rattle.filling.specs.Placed.{Placed, over, Fills};
-use filling::Filled;
-use filling::any;
-use filling::end_of;
-use filling::outcome;
+ghost use Rattle.fill_shared.specs.Given.{Given};
+ghost use Rattle.fill_shared.specs.Placed.{Placed, over, Fills};
+use fill_shared::Filled;
+use fill_shared::any;
+use fill_shared::end_of;
+use fill_shared::outcome;
 use kinds::Operand;
-use rows::Found;
+use cursors::Found;
 use kinds::Selection;
-use stretches::cell_of;
-use stretches::fill_leading;
-use stretches::fill_stretch;
-use stretches::in_limits;
+use fill_stretches::cell_of;
+use fill_stretches::fill_leading;
+use fill_stretches::fill_stretch;
+use fill_stretches::in_limits;
 
 // The label of a granule that is kept (1 is yes), or none.
 fn kept(j: i64, holds: i64) -> Found
@@ -55,18 +55,18 @@ pub fn fill_select(
     let b_period = b.period;
     let b_distance = b.distance;
     let mut reached = fill_leading(at, period, &mut *pool, a_start, a_end, a_period, a_distance);
-    let mut b_cursor = rows::cursor_at(
+    let mut b_cursor = cursors::cursor_at(
         &pool[b_start..b_end],
         b_period,
         b_distance,
         reached.t as i64,
     );
     let mut fresh = false;
-    let mut picked = selections::unknown();
+    let mut picked = select_granules::unknown();
     let mut labelled = false;
     while reached.t < period {
-        let j = rows::label_of(&pool[a_start..a_end], a_period, a_distance, reached.cursor);
-        let decision = selections::decided(
+        let j = cursors::label_of(&pool[a_start..a_end], a_period, a_distance, reached.cursor);
+        let decision = select_granules::decided(
             by,
             picked,
             fresh,
@@ -97,7 +97,7 @@ pub fn fill_select(
             a_period,
             a_distance,
         );
-        b_cursor = runs::cursor_on(
+        b_cursor = strides::cursor_on(
             &pool[b_start..b_end],
             b_period,
             b_distance,

@@ -13,7 +13,7 @@ use mir.Val.{toZ, ofZ}
 use Rattle.integers.proofs.Linear.{ints, _∴_}
 use Rattle.integers.proofs.Order.{le-or-lt}
 use Rattle.integers.proofs.Machine.{plain}
-use Rattle.rows.specs.Cursor.{cursorAt}
+use Rattle.cursors.specs.Cursor.{cursorAt}
 use Rattle.alignment.proofs.Starts.{left-less}
 use Rattle.alignment.proofs.Passes.{pass-end}
 use Rattle.alignment.proofs.Looks.{look-next}

@@ -3,8 +3,8 @@
 use borrow.Author.Needs.{needs, sfits-of}
 use mathlib.Core.Path.{sym, _∙_, ap}
 use mir.Facts.{toZ-ofZ}
-use Rattle.rows.specs.declared.Found.{Found}
-use Rattle.rows.specs.Found.{found}
+use Rattle.cursors.specs.declared.Found.{Found}
+use Rattle.cursors.specs.Found.{found}
 use Rattle.alignment.specs.Codes.{codeOf}
 use Rattle.alignment.proofs.coded.Statement.{statement}
 use Rattle.alignment.proofs.coded.Tie as tie

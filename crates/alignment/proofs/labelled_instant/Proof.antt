@@ -9,10 +9,10 @@ use mir.Facts.{toZ-pos}
 use mir.Syntax.{w64}
 use Rattle.integers.proofs.Linear.{ints, _∴_}
 use Rattle.calendar.specs.Questions.{given}
-use Rattle.rows.specs.Search.{leading}
-use Rattle.rows.proofs.Numbers.{numbers}
-use Rattle.scans.proofs.Instants.{has-label}
-use Rattle.scans.proofs.Leading.{leading-label}
+use Rattle.cursors.specs.Search.{leading}
+use Rattle.cursors.proofs.Numbers.{numbers}
+use Rattle.row_check.proofs.Instants.{has-label}
+use Rattle.row_check.proofs.Leading.{leading-label}
 use Rattle.alignment.specs.Pass.{Starts}
 use Rattle.alignment.proofs.labelled_instant.Statement.{statement}
 use Rattle.alignment.proofs.labelled_instant.Tie as tie

@@ -4,7 +4,7 @@ use mir.Syntax.{w64}
 use mir.Val.{toZ, ofZ}
 use Rattle.integers.proofs.Machine.{plain}
 use Rattle.calendar.specs.Questions.{given}
-use Rattle.rows.specs.Found.{Sound}
+use Rattle.cursors.specs.Found.{Sound}
 use Rattle.alignment.specs.Pass.{Spanned}
 use Rattle.alignment.proofs.partitions.Statement.{statement}
 use Rattle.alignment.proofs.partitions.Tie as tie

@@ -13,13 +13,13 @@ use Rattle.calendar.specs.Meaning.{Row, meant}
 use Rattle.calendar.specs.Compute.{anchored}
 use Rattle.calendar.specs.Questions.{given}
 use Rattle.granules.specs.Valid.{Valid}
-use Rattle.rows.specs.Found.{Near, found}
-use Rattle.rows.specs.Cursor.{cursorAt}
-use Rattle.rows.proofs.Numbers.{valid}
+use Rattle.cursors.specs.Found.{Near, found}
+use Rattle.cursors.specs.Cursor.{cursorAt}
+use Rattle.cursors.proofs.Numbers.{valid}
 use Rattle.anchoring.specs.declared.Anchoring.{Anchoring}
 use Rattle.anchoring.specs.Scanning.{Anchors}
-use Rattle.filling.proofs.Lasts.{anchored-here, anchored-skips}
-use Rattle.filling.proofs.Points.{is-near, next-low, next-high}
+use Rattle.fill_shared.proofs.Lasts.{anchored-here, anchored-skips}
+use Rattle.fill_shared.proofs.Points.{is-near, next-low, next-high}
 use Rattle.anchoring.proofs.Scans.{anchor-of, anchored-next}
 use Rattle.anchoring.proofs.anchor.Statement.{statement}
 use Rattle.anchoring.proofs.anchor.Tie as tie

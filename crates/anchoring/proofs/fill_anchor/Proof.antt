@@ -12,16 +12,16 @@ use lib.ListN.{length}
 use mir.Facts.{toZ-ofZ}
 use Rattle.integers.proofs.Linear.{ints}
 use Rattle.calendar.specs.Compute.{result}
-use Rattle.rows.specs.Found.{found}
+use Rattle.cursors.specs.Found.{found}
 use Rattle.kinds.specs.declared.Kind.the-variants.{Anchor}
 use Rattle.kinds.specs.Operations.{operationOf}
 use Rattle.kinds.specs.Stands.{rowIn}
-use Rattle.filling.specs.declared.Filled.{Filled}
-use Rattle.filling.proofs.Cells.{lent-is}
-use Rattle.filling.specs.Placed.{Fills}
-use Rattle.filling.proofs.Turns.{Lent, Turn, lentAs, lentOf, rowOf, first-two, fills-two, turn-length, turn-ends, turn-index, turn-more, turn-out, turn-done}
+use Rattle.fill_shared.specs.declared.Filled.{Filled}
+use Rattle.fill_shared.proofs.Cells.{lent-is}
+use Rattle.fill_shared.specs.Placed.{Fills}
+use Rattle.fill_shared.proofs.Turns.{Lent, Turn, lentAs, lentOf, rowOf, first-two, fills-two, turn-length, turn-ends, turn-index, turn-more, turn-out, turn-done}
 use Rattle.anchoring.specs.Scanning.{Anchors}
-use Rattle.filling.proofs.Steps.{step-asks, step-gave}
+use Rattle.fill_shared.proofs.Steps.{step-asks, step-gave}
 use Rattle.anchoring.proofs.fill_anchor.Statement.{statement}
 use Rattle.anchoring.proofs.fill_anchor.Tie as tie
 

@@ -16,11 +16,11 @@ use mir.Val.{toZ, ofZ}
 use Rattle.integers.proofs.Linear.{ints}
 use Rattle.integers.proofs.Machine.{plain}
 use Rattle.calendar.specs.Checks.{sound}
-use Rattle.rows.specs.Found.{Near}
-use Rattle.rows.specs.Cursor.{cursorAt, Standing, Shown}
-use Rattle.filling.proofs.Turns.{rowOf, turn-length, rows-kept, rows-stood, turn-out, turn-done}
-use Rattle.stretches.specs.Stretch.{Follows}
-use Rattle.stretches.proofs.Stages.{room-b}
+use Rattle.cursors.specs.Found.{Near}
+use Rattle.cursors.specs.Cursor.{cursorAt, Standing, Shown}
+use Rattle.fill_shared.proofs.Turns.{rowOf, turn-length, rows-kept, rows-stood, turn-out, turn-done}
+use Rattle.fill_stretches.specs.Stretch.{Follows}
+use Rattle.fill_stretches.proofs.Stages.{room-b}
 use Rattle.combining.proofs.fill_combine.Proof.Begun.{Inv-loop, μ-loop, entry, old, A, B, start, as-filled, a-sound, b-sound, a-part, b-part, led, led-part, led-few}
 use Rattle.combining.proofs.fill_combine.Proof.Turning.{at-of, base, Holds, holds, same, inside, few, kept, in-of, loop-at, label, label-is, label-fits, Asks, shown, at-label, given-label, given-result, in-range, Filled, at-filled, filled-pool, filled, goes-on}
 use Rattle.combining.proofs.fill_combine.Statement.{statement}

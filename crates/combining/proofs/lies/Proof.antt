@@ -15,12 +15,12 @@ use Rattle.calendar.specs.Lists.{first}
 use Rattle.calendar.specs.Granules.{granule, inside}
 use Rattle.calendar.specs.Questions.{given}
 use Rattle.granules.specs.Valid.{Valid}
-use Rattle.rows.specs.Found.{found}
-use Rattle.rows.proofs.Numbers.{valid}
-use Rattle.walks.specs.declared.Place.{Place}
-use Rattle.walks.specs.Places.{at}
-use Rattle.walks.specs.Sides.{Stands}
-use Rattle.walks.proofs.Places.{instant-is, stands}
+use Rattle.cursors.specs.Found.{found}
+use Rattle.cursors.proofs.Numbers.{valid}
+use Rattle.containment.specs.declared.Place.{Place}
+use Rattle.containment.specs.Places.{at}
+use Rattle.containment.specs.Sides.{Stands}
+use Rattle.containment.proofs.Places.{instant-is, stands}
 use Rattle.combining.specs.Lying.{liesIn, liesAt}
 use Rattle.combining.proofs.lies.Statement.{statement}
 use Rattle.combining.proofs.lies.Tie as tie

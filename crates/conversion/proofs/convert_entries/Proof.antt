@@ -7,8 +7,8 @@ use Prim.Native.Nat.{ℕ, _-_}
 use native.Mathlib.Omega.{arith}
 use lib.IntN.{ℤ}
 use lib.ListN.{length}
-use Rattle.entering.specs.declared.Entry.{Entry}
-use Rattle.entering.specs.Stores.{Entered}
+use Rattle.row_entry.specs.declared.Entry.{Entry}
+use Rattle.row_entry.specs.Stores.{Entered}
 use Rattle.conversion.proofs.Clearing.{cleared-as}
 use Rattle.conversion.proofs.Outcomes.{Standing, standing-none, standing-due, standing-ended, standing-refused, standing-more, ended-refused}
 use Rattle.conversion.proofs.convert_entries.Statement.{statement}

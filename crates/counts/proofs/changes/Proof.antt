@@ -12,7 +12,7 @@ use mir.Syntax.{w32}
 use mir.Val.{ofZ}
 use Rattle.integers.proofs.Machine.{test-eq}
 use Rattle.calendar.specs.Meaning.{empty}
-use Rattle.rows.proofs.Cells.{getD-any}
+use Rattle.cursors.proofs.Cells.{getD-any}
 use Rattle.counts.specs.Labels.{differing}
 use Rattle.counts.proofs.Whole.{differing-same, differing-more, differing-end}
 use Rattle.counts.proofs.changes.Statement.{statement}

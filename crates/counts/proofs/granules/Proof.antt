@@ -16,10 +16,10 @@ use Rattle.integers.proofs.Linear.{ints, _∴_}
 use Rattle.integers.proofs.Machine.{plain, test-eq}
 use Rattle.calendar.specs.Meaning.{empty}
 use Rattle.counts.specs.declared.Labels.{Labels}
-use Rattle.rows.specs.Search.{leading}
+use Rattle.cursors.specs.Search.{leading}
 use Rattle.counts.specs.Labels.{rises, greatest, counted}
-use Rattle.rows.proofs.Numbers.{numbers}
-use Rattle.scans.proofs.Instants.{has-label}
+use Rattle.cursors.proofs.Numbers.{numbers}
+use Rattle.row_check.proofs.Instants.{has-label}
 use Rattle.counts.proofs.Turn.{granules-wrapped, granules-apart, rises-few}
 use Rattle.counts.proofs.granules.Statement.{statement}
 use Rattle.counts.proofs.granules.Tie as tie

@@ -12,7 +12,7 @@ use mir.Facts.{toZ-pos}
 use mir.Syntax.{w64}
 use Rattle.integers.proofs.Linear.{ints, _∴_}
 use Rattle.calendar.specs.Checks.{labelsOf}
-use Rattle.rows.proofs.Cells.{bits-empty, bits-full}
+use Rattle.cursors.proofs.Cells.{bits-empty, bits-full}
 use Rattle.counts.proofs.Counts.{labelled-more, labelled-same, labelled-end}
 use Rattle.counts.proofs.labelled_instants.Statement.{statement}
 use Rattle.counts.proofs.labelled_instants.Tie as tie

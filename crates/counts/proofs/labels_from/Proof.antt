@@ -18,7 +18,7 @@ use Rattle.integers.proofs.Machine.{widened}
 use Rattle.calendar.specs.Meaning.{empty}
 use Rattle.counts.specs.declared.Labels.{Labels}
 use Rattle.counts.specs.Labels.{rises, greatest, counted}
-use Rattle.rows.proofs.Cells.{getD-any}
+use Rattle.cursors.proofs.Cells.{getD-any}
 use Rattle.counts.proofs.Counts.{count-more, count-same, count-end}
 use Rattle.counts.proofs.labels_from.Statement.{statement}
 use Rattle.counts.proofs.labels_from.Tie as tie

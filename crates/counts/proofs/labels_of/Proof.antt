@@ -14,10 +14,10 @@ use Rattle.integers.proofs.Linear.{ints, _∴_}
 use Rattle.integers.proofs.Machine.{widened, test-eq}
 use Rattle.calendar.specs.Meaning.{empty}
 use Rattle.calendar.specs.Checks.{labelsOf}
-use Rattle.rows.specs.Search.{leading}
-use Rattle.rows.proofs.Numbers.{numbers}
-use Rattle.scans.proofs.Instants.{has-label}
-use Rattle.scans.specs.Order.{risen}
+use Rattle.cursors.specs.Search.{leading}
+use Rattle.cursors.proofs.Numbers.{numbers}
+use Rattle.row_check.proofs.Instants.{has-label}
+use Rattle.row_check.specs.Order.{risen}
 use Rattle.counts.specs.declared.Labels.{Labels}
 use Rattle.counts.specs.Labels.{rises, greatest, differing, counted}
 use Rattle.counts.proofs.Whole.{whole-leading, whole-counted}

@@ -18,9 +18,9 @@ use Rattle.calendar.specs.Granules.{granule}
 use Rattle.calendar.specs.Questions.{given}
 use Rattle.granules.specs.Valid.{Valid}
 use Rattle.granules.proofs.Tests.{some-inj, none≢some}
-use Rattle.rows.specs.Found.{Sound, Near, found}
-use Rattle.rows.specs.Cursor.{cursorAt}
-use Rattle.rows.proofs.Numbers.{numbers, valid}
+use Rattle.cursors.specs.Found.{Sound, Near, found}
+use Rattle.cursors.specs.Cursor.{cursorAt}
+use Rattle.cursors.proofs.Numbers.{numbers, valid}
 use Rattle.granule_ends.proofs.Walks.{Back, left, back-start, back-past, back-to, back-end, back-less}
 use Rattle.granule_ends.proofs.first_instant.Statement.{statement}
 use Rattle.granule_ends.proofs.first_instant.Tie as tie

@@ -2,7 +2,7 @@
 -- then `write_all` on the headings and what that returned, and the answer is read out of it.
 -- Each `&mut` goes to its callee at its own lifetime, share and name, and its last list is the callee's to say (`gave-slice`).
 -- Assumes nothing.
-use Rattle.walked.proofs.Logic.{_≡_, refl, ap, _∙_, [], _∷_, List, ℤ, length, URA, fullShare, Ty, named, Val, SProp, ent, emp, via, fst∗, id⊢, Lft, Share, Fml, ftrue, fat, flft, Memory, Routine, Heap, WpFn, Tables, Atoms, Fun, givenOf, tables, tablesOf, Given, ‵, _⊛_, ⋆, _$_, _∵_, !, qed, by, move, keep, use1, split, join, rewrite, fsplit, fjoin, feqL, suffices, frame, done, look, init, stop, from, of-opd, and-then, no-more, land, returns, enter, alloc1, alloc0, params1, pass1, pass0, free0, agg, fmOf, owns, Is, nothing-lawful, i32, RefT, sliceVal, MutSlice, ShrSlice, Room, finally, slice-vals, mut-slice-tells, shr-slice-tells, shr-slice-copy, plain, only, owned, nothing, onEntry, Meets, tripleOf, entered, cited, says, Stays, stay-none-slice, gave-slice, walkOf, goes-none-slice, goes-gave-slice, ends-at, yes, usize, uint-makes, w64, vint, drop}
+use Rattle.hand_proofs.proofs.Logic.{_≡_, refl, ap, _∙_, [], _∷_, List, ℤ, length, URA, fullShare, Ty, named, Val, SProp, ent, emp, via, fst∗, id⊢, Lft, Share, Fml, ftrue, fat, flft, Memory, Routine, Heap, WpFn, Tables, Atoms, Fun, givenOf, tables, tablesOf, Given, ‵, _⊛_, ⋆, _$_, _∵_, !, qed, by, move, keep, use1, split, join, rewrite, fsplit, fjoin, feqL, suffices, frame, done, look, init, stop, from, of-opd, and-then, no-more, land, returns, enter, alloc1, alloc0, params1, pass1, pass0, free0, agg, fmOf, owns, Is, nothing-lawful, i32, RefT, sliceVal, MutSlice, ShrSlice, Room, finally, slice-vals, mut-slice-tells, shr-slice-tells, shr-slice-copy, plain, only, owned, nothing, onEntry, Meets, tripleOf, entered, cited, says, Stays, stay-none-slice, gave-slice, walkOf, goes-none-slice, goes-gave-slice, ends-at, yes, usize, uint-makes, w64, vint, drop}
 use Prim.Native.Nat.{ℕ}
 use denote.Struct.Laws as LL
 use denote.Enum.Laws as EL
@@ -12,8 +12,8 @@ use Rattle.conversion.specs.Answers.{answered}
 use Rattle.headings.specs.Records.{recordsOf, recordsAfter}
 use Rattle.headings.specs.declared.Heading.{Heading}
 use Rattle.headings.specs.declared.Made.{Made}
-use Rattle.walked.proofs.Calls.{calls-fn, proves}
-use Rattle.walked.proofs.Steps.{cell, part, target, puts, dies, with-own, tyAt}
+use Rattle.hand_proofs.proofs.Calls.{calls-fn, proves}
+use Rattle.hand_proofs.proofs.Steps.{cell, part, target, puts, dies, with-own, tyAt}
 use Rattle.headings.proofs.Plain.{outcome-records}
 use Rattle.headings.proofs.Heading as T
 use Rattle.conversion.proofs.Conversion as N

@@ -7,10 +7,10 @@ use lib.IntN.{ℤ, pos, _+ℤ_}
 use Rattle.integers.proofs.Machine.{plain}
 use Rattle.calendar.specs.Meaning.{Row, meant}
 use Rattle.calendar.specs.Questions.{given}
-use Rattle.rows.specs.Found.{found, Near}
-use Rattle.rows.specs.Cursor.{cursorAt}
+use Rattle.cursors.specs.Found.{found, Near}
+use Rattle.cursors.specs.Cursor.{cursorAt}
 use Rattle.joining.specs.Joined.{joinedLabel}
-use Rattle.filling.proofs.Points.{is-near, next-low, next-high}
+use Rattle.fill_shared.proofs.Points.{is-near, next-low, next-high}
 use Rattle.joining.proofs.Unions.{joined-is}
 use Rattle.joining.proofs.by_labels.Statement.{statement}
 use Rattle.joining.proofs.by_labels.Tie as tie

@@ -11,16 +11,16 @@ use lib.IntN.{ℤ, pos}
 use lib.ListN.{length}
 use Rattle.integers.proofs.Linear.{ints}
 use Rattle.calendar.specs.Compute.{result}
-use Rattle.rows.specs.Found.{found}
+use Rattle.cursors.specs.Found.{found}
 use Rattle.kinds.specs.declared.Kind.the-variants.{ByLabels}
 use Rattle.kinds.specs.Operations.{operationOf}
 use Rattle.kinds.specs.Stands.{rowIn}
-use Rattle.filling.specs.declared.Filled.{Filled}
-use Rattle.filling.proofs.Cells.{lent-is}
-use Rattle.filling.specs.Placed.{Fills}
-use Rattle.filling.proofs.Turns.{Lent, Turn, lentAs, lentOf, rowOf, first-two, fills-two, turn-length, turn-ends, turn-index, turn-more, turn-out, turn-done}
+use Rattle.fill_shared.specs.declared.Filled.{Filled}
+use Rattle.fill_shared.proofs.Cells.{lent-is}
+use Rattle.fill_shared.specs.Placed.{Fills}
+use Rattle.fill_shared.proofs.Turns.{Lent, Turn, lentAs, lentOf, rowOf, first-two, fills-two, turn-length, turn-ends, turn-index, turn-more, turn-out, turn-done}
 use Rattle.joining.specs.Scanning.{Joins}
-use Rattle.filling.proofs.Steps.{step-asks, step-gave}
+use Rattle.fill_shared.proofs.Steps.{step-asks, step-gave}
 use Rattle.joining.proofs.fill_by_labels.Statement.{statement}
 use Rattle.joining.proofs.fill_by_labels.Tie as tie
 

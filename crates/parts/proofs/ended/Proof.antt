@@ -13,11 +13,11 @@ use Rattle.integers.proofs.Machine.{plain, test-eq}
 use Rattle.calendar.specs.Meaning.{Row, meant}
 use Rattle.calendar.specs.Questions.{given}
 use Rattle.granules.specs.Valid.{Valid}
-use Rattle.rows.specs.Found.{Sound, Near, found}
-use Rattle.rows.specs.Cursor.{cursorAt}
-use Rattle.rows.proofs.Numbers.{numbers, valid}
-use Rattle.walks.specs.Places.{instant}
-use Rattle.walks.proofs.Places.{instant-is}
+use Rattle.cursors.specs.Found.{Sound, Near, found}
+use Rattle.cursors.specs.Cursor.{cursorAt}
+use Rattle.cursors.proofs.Numbers.{numbers, valid}
+use Rattle.containment.specs.Places.{instant}
+use Rattle.containment.proofs.Places.{instant-is}
 use Rattle.parts.specs.Walk.{Placed, Least}
 use Rattle.parts.proofs.WalkGaps.{GapOn, ahead, on-start, on-label, on-step, on-less}
 use Rattle.parts.proofs.ended.Statement.{statement}

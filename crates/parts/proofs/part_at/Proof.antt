@@ -9,7 +9,7 @@ use mir.Facts.{toZ-ofZ}
 use mir.Syntax.{w64}
 use mir.Val.{SFits}
 use Rattle.integers.proofs.Machine.{test-eq}
-use Rattle.rows.specs.Found.{found}
+use Rattle.cursors.specs.Found.{found}
 use Rattle.parts.specs.declared.Part.the-variants.{Outside, Next}
 use Rattle.parts.specs.Walk.{PartAt}
 use Rattle.parts.proofs.part_at.Statement.{statement}

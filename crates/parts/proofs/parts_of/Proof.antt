@@ -13,8 +13,8 @@ use lib.ListN.{length, set, length-set}
 use mir.Facts.{toZ-ofZ}
 use mir.Syntax.{w64}
 use mir.Val.{toZ, ofZ, SFits}
-use Rattle.rows.proofs.Numbers.{numbers}
-use Rattle.walks.proofs.Places.{instant-is}
+use Rattle.cursors.proofs.Numbers.{numbers}
+use Rattle.containment.proofs.Places.{instant-is}
 use Rattle.parts.specs.declared.Part.the-variants.{Next, Outside}
 use Rattle.parts.specs.declared.Walked.the-variants.{Incomplete}
 use Rattle.parts.specs.Walk.{EndAt}

@@ -16,7 +16,7 @@ use Rattle.calendar.specs.Questions.{given, extent}
 use Rattle.granules.specs.Valid.{Valid}
 use Rattle.granules.proofs.Tests.{some-inj}
 use Rattle.granules.proofs.Questions.{extent-positive, extent-at-most}
-use Rattle.rows.proofs.Numbers.{valid, numbers, read-as}
+use Rattle.cursors.proofs.Numbers.{valid, numbers, read-as}
 use Rattle.questions.proofs.Lengths.{length-is, cast}
 use Rattle.questions.proofs.extent.Statement.{statement}
 use Rattle.questions.proofs.extent.Tie as tie

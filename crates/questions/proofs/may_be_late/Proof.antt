@@ -10,7 +10,7 @@ use Rattle.calendar.specs.Checks.{sound, inRange, between}
 use Rattle.calendar.specs.Questions.{given}
 use Rattle.floats.specs.Allowance as F
 use Rattle.granules.proofs.Tests.{not-iff}
-use Rattle.rows.proofs.Bounds.{in-range}
+use Rattle.cursors.proofs.Bounds.{in-range}
 use Rattle.questions.specs.Answers.{lateLimit, mayBeLate}
 use Rattle.questions.proofs.Replies.{passed, failed}
 use Rattle.questions.proofs.may_be_late.Statement.{statement}

@@ -1,4 +1,4 @@
--- `questions::up_granule` meets its contract: 13 twice, 14, 15, then what `walks::holder` says of an instant of the granule.
+-- `questions::up_granule` meets its contract: 13 twice, 14, 15, then what `containment::holder` says of an instant of the granule.
 use borrow.Author.Tests.{not-false}
 use borrow.Author.Needs.{needs, sfits-of}
 use mathlib.Core.Path.{_≡_, sym, _∙_, ap}
@@ -22,9 +22,9 @@ use Rattle.calendar.specs.Questions.{given, holder, upFromGranule}
 use Rattle.granules.specs.Valid.{Valid}
 use Rattle.granules.proofs.Tests.{not-iff}
 use Rattle.granules.proofs.Instants.{instantOf-labelled}
-use Rattle.rows.specs.Found.{found, Within}
-use Rattle.rows.proofs.Bounds.{in-range}
-use Rattle.rows.proofs.Numbers.{valid}
+use Rattle.cursors.specs.Found.{found, Within}
+use Rattle.cursors.proofs.Bounds.{in-range}
+use Rattle.cursors.proofs.Numbers.{valid}
 use Rattle.questions.proofs.Replies.{passed, failed}
 use Rattle.questions.proofs.up_granule.Statement.{statement}
 use Rattle.questions.proofs.up_granule.Tie as tie

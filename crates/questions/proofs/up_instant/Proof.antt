@@ -15,8 +15,8 @@ use Rattle.calendar.specs.Reply.Reply.{answer}
 use Rattle.calendar.specs.Checks.{sound, inRange}
 use Rattle.calendar.specs.Questions.{given, upFromInstant}
 use Rattle.granules.proofs.Tests.{not-iff}
-use Rattle.rows.specs.Found.{found, Near}
-use Rattle.rows.proofs.Bounds.{in-range}
+use Rattle.cursors.specs.Found.{found, Near}
+use Rattle.cursors.proofs.Bounds.{in-range}
 use Rattle.questions.proofs.Replies.{passed, failed}
 use Rattle.questions.proofs.up_instant.Statement.{statement}
 use Rattle.questions.proofs.up_instant.Tie as tie

@@ -17,8 +17,8 @@ use Rattle.calendar.specs.Meaning.{Row, meant}
 use Rattle.calendar.specs.Operation as Operation
 use Rattle.calendar.specs.Questions.{given}
 use Rattle.granules.specs.Valid.{Valid}
-use Rattle.rows.specs.Found.{Sound, Near, found}
-use Rattle.rows.proofs.Numbers.{numbers, valid}
+use Rattle.cursors.specs.Found.{Sound, Near, found}
+use Rattle.cursors.proofs.Numbers.{numbers, valid}
 use Rattle.alignment.specs.Codes.{codeOf, codedLabel}
 use Rattle.alignment.specs.Fits.{alignmentOf}
 use Rattle.alignment.specs.Pass.{Starts, Spanned, RiseAlike}

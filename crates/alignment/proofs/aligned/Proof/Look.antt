@@ -15,7 +15,7 @@ use Rattle.integers.proofs.Machine.{plain}
 use Rattle.calendar.specs.Meaning.{meant}
 use Rattle.calendar.specs.Size.{turn, spanOf}
 use Rattle.granules.proofs.Tests.{not-iff}
-use Rattle.rows.specs.Found.{Near, found}
+use Rattle.cursors.specs.Found.{Near, found}
 use borrow.Author.Tests.{not-false}
 use Rattle.alignment.specs.Codes.{codedLabel}
 use Rattle.alignment.specs.Fits.{fits}

@@ -14,10 +14,10 @@ use Rattle.calendar.specs.Meaning.{Row, meant}
 use Rattle.calendar.specs.Lists.{sameLabel}
 use Rattle.calendar.specs.Questions.{given}
 use Rattle.granules.specs.Valid.{Valid}
-use Rattle.rows.specs.Found.{Sound, Near}
-use Rattle.rows.specs.Cursor.{cursorAt}
-use Rattle.rows.proofs.Numbers.{numbers, valid, read-as}
-use Rattle.runs.specs.Changes.{Changes}
+use Rattle.cursors.specs.Found.{Sound, Near}
+use Rattle.cursors.specs.Cursor.{cursorAt}
+use Rattle.cursors.proofs.Numbers.{numbers, valid, read-as}
+use Rattle.strides.specs.Changes.{Changes}
 use Rattle.alignment.specs.Pass.{Spanned, Whole}
 use Rattle.alignment.proofs.Choices.{outcome}
 use Rattle.alignment.proofs.Starts.{left-less}

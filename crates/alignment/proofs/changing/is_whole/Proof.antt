@@ -12,7 +12,7 @@ use Rattle.integers.proofs.Machine.{test-eq}
 use Rattle.calendar.specs.Questions.{given}
 use Rattle.calendar.specs.Checks.{labelsOf}
 use Rattle.granules.proofs.Tests.{eqb-iff}
-use Rattle.rows.proofs.Numbers.{numbers, valid}
+use Rattle.cursors.proofs.Numbers.{numbers, valid}
 use Rattle.alignment.proofs.Changes.{all-whole}
 use Rattle.alignment.proofs.changing.is_whole.Statement.{statement}
 use Rattle.alignment.proofs.changing.is_whole.Tie as tie

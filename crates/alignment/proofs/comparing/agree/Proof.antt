@@ -1,7 +1,7 @@
 -- `alignment::comparing::agree` meets its contract: labels are compared by their bits.
 -- Assumes nothing.
 use mathlib.Core.Path.{sym, _∙_, ap, ap₂}
-use Rattle.rows.specs.Found.{found}
+use Rattle.cursors.specs.Found.{found}
 use Rattle.alignment.specs.Fits.{agree}
 use Rattle.alignment.proofs.Choices.{bits-test}
 use borrow.Author.Needs.{needs, sfits-of}

@@ -9,7 +9,7 @@ use mir.Val.{SFits, ofZ}
 use Rattle.integers.proofs.Machine.{test-lt, test-not-lt, test-eq, plain}
 use Rattle.calendar.specs.Lists.{equal, is}
 use Rattle.granules.proofs.Tests.{equal-iff, false-iff}
-use Rattle.rows.specs.Found.{found}
+use Rattle.cursors.specs.Found.{found}
 use Rattle.alignment.specs.Fits.{crosses}
 use Rattle.alignment.proofs.Choices.{outcome, crosses-at}
 use borrow.Author.Needs.{needs, sfits-of}

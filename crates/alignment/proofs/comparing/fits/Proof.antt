@@ -1,7 +1,7 @@
 -- `alignment::comparing::fits` meets its contract.
 -- Assumes nothing.
 use mathlib.Core.Path.{sym, _∙_, ap}
-use Rattle.rows.specs.Found.{found}
+use Rattle.cursors.specs.Found.{found}
 use Rattle.alignment.specs.declared.Alignment.{Alignment}
 use Rattle.alignment.specs.Fits.{fits, alignmentOf}
 use borrow.Author.Needs.{needs}

@@ -2,7 +2,7 @@
 -- Assumes nothing.
 use mathlib.Core.Path.{refl, sym, _∙_}
 use mathlib.Core.Bool.{true, false}
-use Rattle.rows.specs.Found.{found}
+use Rattle.cursors.specs.Found.{found}
 use Rattle.alignment.proofs.Choices.{outcome, compatible-at}
 use borrow.Author.Needs.{needs}
 use Rattle.alignment.proofs.comparing.fits_compatible.Statement.{statement}

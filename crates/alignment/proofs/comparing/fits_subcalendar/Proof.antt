@@ -2,7 +2,7 @@
 -- Assumes nothing.
 use mathlib.Core.Path.{refl, sym, _∙_, ap}
 use mathlib.Core.Bool.{true, false, not}
-use Rattle.rows.specs.Found.{found}
+use Rattle.cursors.specs.Found.{found}
 use Rattle.alignment.proofs.Choices.{outcome, subcalendar-at}
 use borrow.Author.Needs.{needs}
 use Rattle.alignment.proofs.comparing.fits_subcalendar.Statement.{statement}

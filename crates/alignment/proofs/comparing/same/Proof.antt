@@ -2,7 +2,7 @@
 -- Assumes nothing.
 use mathlib.Core.Path.{sym, _∙_, ap, ap₂}
 use Rattle.calendar.specs.Lists.{sameLabel}
-use Rattle.rows.specs.Found.{found}
+use Rattle.cursors.specs.Found.{found}
 use Rattle.alignment.proofs.Choices.{bits-test}
 use borrow.Author.Needs.{needs, sfits-of}
 use Rattle.alignment.proofs.comparing.same.Statement.{statement}

@@ -19,16 +19,16 @@ use Rattle.calendar.specs.Lists.{isSome, ifLabel, first}
 use Rattle.calendar.specs.Granules.{granule}
 use Rattle.calendar.specs.Compute.{result, cellOf}
 use Rattle.calendar.specs.Checks.{sound, inRange}
-use Rattle.rows.specs.Found.{found, Within}
-use Rattle.rows.specs.declared.Cursor.{Cursor}
-use Rattle.rows.specs.Cursor.{cursorAt}
-use Rattle.rows.proofs.Numbers.{valid}
+use Rattle.cursors.specs.Found.{found, Within}
+use Rattle.cursors.specs.declared.Cursor.{Cursor}
+use Rattle.cursors.specs.Cursor.{cursorAt}
+use Rattle.cursors.proofs.Numbers.{valid}
 use Rattle.kinds.specs.declared.Kind.the-variants.{Combine}
 use Rattle.kinds.specs.Operations.{operationOf}
-use Rattle.filling.proofs.Points.{label-small}
-use Rattle.filling.proofs.Turns.{rowOf, turn-length, rows-kept, rows-stood}
-use Rattle.stretches.specs.Stretch.{Stretched}
-use Rattle.stretches.proofs.Stages.{cell-fits}
+use Rattle.fill_shared.proofs.Points.{label-small}
+use Rattle.fill_shared.proofs.Turns.{rowOf, turn-length, rows-kept, rows-stood}
+use Rattle.fill_stretches.specs.Stretch.{Stretched}
+use Rattle.fill_stretches.proofs.Stages.{cell-fits}
 use Rattle.combining.proofs.Granules.{Combining, combining-next, granule-on}
 use Rattle.combining.proofs.fill_combine.Proof.Begun.{Inv-loop, μ-loop, Base, entry, old, A, B, b-row, b-sound, started}
 use Rattle.combining.proofs.fill_combine.Tie as tie

@@ -16,12 +16,12 @@ use Rattle.integers.proofs.Machine.{plain}
 use Rattle.calendar.specs.Meaning.{Row}
 use Rattle.calendar.specs.Questions.{given}
 use Rattle.granules.specs.Valid.{Valid}
-use Rattle.rows.specs.declared.Cursor.{Cursor}
-use Rattle.rows.specs.Found.{Sound, Near, Within}
-use Rattle.rows.specs.Cursor.{cursorAt}
-use Rattle.rows.proofs.Numbers.{valid}
-use Rattle.walks.specs.Places.{instant}
-use Rattle.walks.proofs.Places.{instant-is}
+use Rattle.cursors.specs.declared.Cursor.{Cursor}
+use Rattle.cursors.specs.Found.{Sound, Near, Within}
+use Rattle.cursors.specs.Cursor.{cursorAt}
+use Rattle.cursors.proofs.Numbers.{valid}
+use Rattle.containment.specs.Places.{instant}
+use Rattle.containment.proofs.Places.{instant-is}
 use Rattle.parts.specs.declared.Walked.{Walked}
 use Rattle.parts.specs.Walk.{Begins, Greatest, Walks}
 use Rattle.parts.proofs.Shown.{shows-nothing}

@@ -10,11 +10,11 @@ use mir.Val.{toZ, ofZ}
 use Rattle.integers.specs.Parts.{up}
 use Rattle.integers.proofs.Linear.{ints, _∴_}
 use Rattle.calendar.specs.Meaning.{meant}
-use Rattle.rows.specs.Found.{Near, Within}
-use Rattle.rows.specs.Cursor.{cursorAt}
-use Rattle.rows.proofs.Numbers.{numbers}
-use Rattle.walks.specs.Places.{instant}
-use Rattle.walks.proofs.Places.{instant-is}
+use Rattle.cursors.specs.Found.{Near, Within}
+use Rattle.cursors.specs.Cursor.{cursorAt}
+use Rattle.cursors.proofs.Numbers.{numbers}
+use Rattle.containment.specs.Places.{instant}
+use Rattle.containment.proofs.Places.{instant-is}
 use Rattle.parts.specs.declared.Part.{Part}
 use Rattle.parts.specs.Walk.{PartAt}
 use Rattle.parts.proofs.WalkGaps.{ahead}

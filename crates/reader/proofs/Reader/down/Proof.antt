@@ -1,11 +1,11 @@
 -- `Reader::down` meets its contract, by hand: it passes the two readers' fields and the list on to `questions::down`.
 -- The list goes there for good: what is said of it at exit there is what is said here.
 -- Assumes nothing.
-use Rattle.walked.proofs.Logic.{refl, [], _∷_, List, ℤ, URA, named, tyInt, w64, SProp, id⊢, Memory, Routine, Heap, WpFn, Tables, Atoms, Lfts, Fun, givenOf, tables, tablesOf, Given, raw, _$_, _∵_, !, qed, move, done, look, init, stop, from, and-then, no-more, land, returns, enter, alloc1, alloc0, params1, pass1, pass0, free0, i64, Typed, Meets, tripleOf, entered, cited, of-opd, agg, namedLft, NamedLft, RefT, MutSlice}
-use Rattle.walked.proofs.Owned.{lastly, said-once}
-use Rattle.walked.proofs.Params.{number, list, enum}
-use Rattle.walked.proofs.Passed.{Passes, calls-on, passes-on}
-use Rattle.walked.proofs.Steps.{cell, part, target, puts, dies}
+use Rattle.hand_proofs.proofs.Logic.{refl, [], _∷_, List, ℤ, URA, named, tyInt, w64, SProp, id⊢, Memory, Routine, Heap, WpFn, Tables, Atoms, Lfts, Fun, givenOf, tables, tablesOf, Given, raw, _$_, _∵_, !, qed, move, done, look, init, stop, from, and-then, no-more, land, returns, enter, alloc1, alloc0, params1, pass1, pass0, free0, i64, Typed, Meets, tripleOf, entered, cited, of-opd, agg, namedLft, NamedLft, RefT, MutSlice}
+use Rattle.hand_proofs.proofs.Owned.{lastly, said-once}
+use Rattle.hand_proofs.proofs.Params.{number, list, enum}
+use Rattle.hand_proofs.proofs.Passed.{Passes, calls-on, passes-on}
+use Rattle.hand_proofs.proofs.Steps.{cell, part, target, puts, dies}
 use Rattle.reader.specs.declared.Reader.{Reader}
 use Rattle.reader.proofs.Reader.Laws as T′
 use Rattle.reader.proofs.Fields.{listTy, num, slice, fields, fieldsThen, Row, RowThen, row, reader, both-last}

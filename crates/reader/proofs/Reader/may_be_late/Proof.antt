@@ -1,10 +1,10 @@
 -- `Reader::may_be_late` meets its contract, by hand: it passes the reader's fields on to `questions::may_be_late`.
 -- Assumes nothing.
-use Rattle.walked.proofs.Logic.{refl, [], _∷_, ℤ, URA, named, tyInt, w64, SProp, id⊢, Memory, Routine, Heap, WpFn, Tables, Atoms, Lfts, Fun, givenOf, tables, tablesOf, Given, raw, _$_, _∵_, !, qed, move, done, look, init, stop, from, and-then, no-more, land, returns, enter, alloc1, alloc0, params1, pass1, pass0, free0, i64, Typed, Meets, tripleOf, entered, cited, of-opd, namedLft, NamedLft}
-use Rattle.walked.proofs.Owned.{silence}
-use Rattle.walked.proofs.Params.{number, enum}
-use Rattle.walked.proofs.Passed.{Passes, calls-on, same, passes-on}
-use Rattle.walked.proofs.Steps.{cell, part, puts, dies}
+use Rattle.hand_proofs.proofs.Logic.{refl, [], _∷_, ℤ, URA, named, tyInt, w64, SProp, id⊢, Memory, Routine, Heap, WpFn, Tables, Atoms, Lfts, Fun, givenOf, tables, tablesOf, Given, raw, _$_, _∵_, !, qed, move, done, look, init, stop, from, and-then, no-more, land, returns, enter, alloc1, alloc0, params1, pass1, pass0, free0, i64, Typed, Meets, tripleOf, entered, cited, of-opd, namedLft, NamedLft}
+use Rattle.hand_proofs.proofs.Owned.{silence}
+use Rattle.hand_proofs.proofs.Params.{number, enum}
+use Rattle.hand_proofs.proofs.Passed.{Passes, calls-on, same, passes-on}
+use Rattle.hand_proofs.proofs.Steps.{cell, part, puts, dies}
 use Rattle.reader.specs.declared.Reader.{Reader}
 use Rattle.reader.proofs.Reader.Laws as T′
 use Rattle.reader.proofs.Fields.{num, fields, Row, row, reader, fields-last}

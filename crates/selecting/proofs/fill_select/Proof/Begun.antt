@@ -11,16 +11,16 @@ use lib.ListN.{length}
 use Rattle.integers.proofs.Machine.{plain}
 use Rattle.calendar.specs.Meaning.{Row}
 use Rattle.calendar.specs.Checks.{sound}
-use Rattle.rows.specs.Cursor.{cursorAt}
+use Rattle.cursors.specs.Cursor.{cursorAt}
 use Rattle.kinds.specs.declared.Selection.{Selection}
 use Rattle.kinds.specs.declared.Kind.the-variants.{Select}
 use Rattle.kinds.specs.Operations.{operationOf}
 use Rattle.kinds.specs.Stands.{rowIn}
-use Rattle.filling.specs.declared.Filled.{Filled}
-use Rattle.filling.proofs.Cells.{lent-is}
-use Rattle.filling.specs.Placed.{Fills}
-use Rattle.filling.proofs.Turns.{Lent, Turn, lentAs, lentOf, rowOf, first-two, fills-two, turn-length, rows-stood}
-use Rattle.stretches.proofs.Turns.{turn-led}
+use Rattle.fill_shared.specs.declared.Filled.{Filled}
+use Rattle.fill_shared.proofs.Cells.{lent-is}
+use Rattle.fill_shared.specs.Placed.{Fills}
+use Rattle.fill_shared.proofs.Turns.{Lent, Turn, lentAs, lentOf, rowOf, first-two, fills-two, turn-length, rows-stood}
+use Rattle.fill_stretches.proofs.Turns.{turn-led}
 use Rattle.selecting.proofs.Granules.{Selecting, unlabelled, selecting-none}
 use Rattle.selecting.proofs.fill_select.Tie as tie
 

@@ -20,19 +20,19 @@ use Rattle.calendar.specs.Lists.{isSome, ifLabel, first, only, equal}
 use Rattle.calendar.specs.Granules.{granule}
 use Rattle.calendar.specs.Compute.{result, cellOf}
 use Rattle.calendar.specs.Checks.{sound, inRange}
-use Rattle.rows.specs.Found.{found, Within}
-use Rattle.rows.specs.declared.Cursor.{Cursor}
-use Rattle.rows.specs.Cursor.{cursorAt}
-use Rattle.rows.proofs.Numbers.{valid}
+use Rattle.cursors.specs.Found.{found, Within}
+use Rattle.cursors.specs.declared.Cursor.{Cursor}
+use Rattle.cursors.specs.Cursor.{cursorAt}
+use Rattle.cursors.proofs.Numbers.{valid}
 use Rattle.kinds.specs.Limits.{Picking}
-use Rattle.selections.specs.Memos.{Remembers}
-use Rattle.selections.specs.Deciding.{Decides}
+use Rattle.select_granules.specs.Memos.{Remembers}
+use Rattle.select_granules.specs.Deciding.{Decides}
 use Rattle.kinds.specs.declared.Kind.the-variants.{Select}
 use Rattle.kinds.specs.Operations.{operationOf}
-use Rattle.filling.proofs.Points.{label-small}
-use Rattle.filling.proofs.Turns.{rowOf, turn-length, rows-kept, rows-stood}
-use Rattle.stretches.specs.Stretch.{Stretched}
-use Rattle.stretches.proofs.Stages.{cell-fits}
+use Rattle.fill_shared.proofs.Points.{label-small}
+use Rattle.fill_shared.proofs.Turns.{rowOf, turn-length, rows-kept, rows-stood}
+use Rattle.fill_stretches.specs.Stretch.{Stretched}
+use Rattle.fill_stretches.proofs.Stages.{cell-fits}
 use Rattle.selecting.proofs.Granules.{Selecting, decided-label, selecting-next, granule-on}
 use Rattle.selecting.proofs.fill_select.Proof.Begun.{Inv-loop, μ-loop, Base, entry, by, old, A, B, a-row, b-row, a-sound, started}
 use Rattle.selecting.proofs.fill_select.Tie as tie

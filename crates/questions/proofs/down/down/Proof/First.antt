@@ -19,8 +19,8 @@ use Rattle.granules.proofs.Calendars.{granule-near}
 use Rattle.granules.proofs.Rows.{meant-repeats}
 use Rattle.granules.proofs.Instants.{instantOf-labelled}
 use Rattle.granules.proofs.Questions.{first-labelled, first-at-most}
-use Rattle.rows.specs.Found.{found, Within}
-use Rattle.rows.proofs.Numbers.{numbers, valid}
+use Rattle.cursors.specs.Found.{found, Within}
+use Rattle.cursors.proofs.Numbers.{numbers, valid}
 use Rattle.parts.specs.Walk.{Begins}
 use Rattle.questions.proofs.Checks.{Checked}
 use Rattle.questions.proofs.down.down.Proof.Passed.{h-row, g-row, begun, is-ranged, h-is, g-is, found-is}

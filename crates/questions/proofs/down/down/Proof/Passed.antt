@@ -13,8 +13,8 @@ use Rattle.calendar.specs.Granules.{instantOf, has}
 use Rattle.calendar.specs.Checks.{sound, inRange}
 use Rattle.calendar.specs.Questions.{given}
 use Rattle.granules.proofs.Tests.{not-iff}
-use Rattle.rows.specs.Found.{found}
-use Rattle.rows.proofs.Bounds.{in-range}
+use Rattle.cursors.specs.Found.{found}
+use Rattle.cursors.proofs.Bounds.{in-range}
 use Rattle.questions.proofs.Checks.{down-row, down-other, down-argument, down-label, refused-parts}
 use Rattle.questions.proofs.down.down.Tie as tie
 

@@ -1,0 +1,37 @@
+// The working row of any kind, filled in behind the rows that stand in the pool already.
+
+ghost use Rattle.kinds.specs.Stands.{rowIn};
+ghost use Rattle.fill_shared.specs.Given.{Given};
+ghost use Rattle.fill_shared.specs.Placed.{Placed, over, Fills};
+use fill_shared::Filled;
+use kinds::Kind;
+use kinds::Operand;
+
+mod bottom;
+
+// Fills the cells from `at` on with the working row, as many as its period; stops at a label outside the limits.
+pub fn fill(
+    kind: Kind,
+    span: i64,
+    at: usize,
+    period: usize,
+    pool: &mut [i32],
+    a: Operand,
+    b: Operand,
+) -> Filled
+    requires { ⌜ Given kind (rowIn (now pool) a) (rowIn (now pool) b) ⌝ }
+    requires { ⌜ Placed kind a b span at period (now pool) ⌝ }
+    ensures { λ r. ⌜ Fills (over kind (now (pool .entry)) a b) at period (now (pool .entry)) (now (pool .exit)) r ⌝ }
+{
+    match kind {
+        Kind::Group(x) => fill_unary::grouping::fill_group(x, span, at, period, pool, a, b),
+        Kind::Shift(x) => fill_unary::shifting::fill_shift(x, span, at, period, pool, a, b),
+        Kind::Renumber(x) => fill_unary::renumbering::fill_renumber(x, span, at, period, pool, a, b),
+        Kind::Alter(by) => fill_alter::fill_alter(by, span, at, period, pool, a, b),
+        Kind::Combine => combining::fill_combine(span, at, period, pool, a, b),
+        Kind::Anchor => anchoring::fill_anchor(span, at, period, pool, a, b),
+        Kind::Select(by) => selecting::fill_select(by, span, at, period, pool, a, b),
+        Kind::ByLabels(by) => joining::fill_by_labels(by, span, at, period, pool, a, b),
+        Kind::Bottom => bottom::fill_bottom(span, at, period, pool, a, b),
+    }
+}

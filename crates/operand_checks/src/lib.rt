@@ -1,0 +1,134 @@
+// The checks of an entry's operands and of its room: 7, 8 for the span, 9, 10, 8 for the working period, in document 01's order.
+
+ghost use mathlib.Core.Path.{_≡_};
+ghost use lib.IntN.{pos};
+ghost use lib.Signed.{_≤ℤ_};
+ghost use Rattle.integers.specs.Parts.{up};
+ghost use Rattle.calendar.specs.Granules.{full};
+ghost use Rattle.calendar.specs.Checks.{poolLimit};
+ghost use Rattle.calendar.specs.Questions.{given};
+ghost use Rattle.cursors.specs.Found.{Sound};
+ghost use Rattle.kinds.specs.Operations.{operationOf, operands, Numbers, SoundFirst};
+ghost use Rattle.operand_checks.specs.Admission.{admission, checkedOf};
+ghost use Rattle.operand_checks.specs.Shared.{IsRoom, wholeTurn, fitted};
+use calendar::Refusal;
+use kinds::Kind;
+use spanning::Alignment;
+
+mod altered;
+mod grouping;
+mod spanning;
+
+// The span of an operation, its working period and the distance that goes with it.
+pub struct Extent {
+    pub span: i64,
+    pub period: i64,
+    pub distance: i64,
+}
+
+// What the checks come to: a refusal, by its number, or how far the working row reaches.
+pub enum Checked {
+    Refused(u32),
+    Passed(Extent),
+}
+
+// Whether every whole number is a label of the row.
+fn is_full(cells: &[i32], period: i64, distance: i64) -> bool
+    requires { ⌜ Sound period distance (now cells) ⌝ }
+    ensures { λ r. ⌜ r ≡ full (given period distance (now (cells .entry))) ⌝ }
+{
+    counts::granules(cells, period, distance) == distance
+}
+
+// 8, where span and working period are those of the one operand, or 1.
+fn whole(room: i64, period: i64, distance: i64) -> Checked
+    requires { ⌜ IsRoom room ⌝ }
+    ensures { λ r. ⌜ r ≡ checkedOf (fitted (wholeTurn period distance) (up room)) ⌝ }
+{
+    if period <= room {
+        Checked::Passed(Extent {
+            span: period,
+            period: period,
+            distance: distance,
+        })
+    } else {
+        Checked::Refused(Refusal::TooLong.number())
+    }
+}
+
+// The checks of an operation over two rows, or over one that is given twice.
+pub fn check(
+    kind: Kind,
+    room: i64,
+    a_cells: &[i32],
+    a_period: i64,
+    a_distance: i64,
+    b_cells: &[i32],
+    b_period: i64,
+    b_distance: i64,
+) -> Checked
+    requires { ⌜ Numbers kind ⌝ }
+    requires { ⌜ SoundFirst (operands kind) (given «a_period» «a_distance» (now «a_cells»)) (given «b_period» «b_distance» (now «b_cells»)) ⌝ }
+    requires { ⌜ (pos 0 ≤ℤ room) × (room ≤ℤ pos poolLimit) ⌝ }
+    ensures { λ r. ⌜ r ≡ checkedOf (admission (operationOf kind (given «a_period» «a_distance» (now («a_cells» .entry))) (given «b_period» «b_distance» (now («b_cells» .entry)))) (up room)) ⌝ }
+{
+    match kind {
+        Kind::Bottom => whole(room, 1, 1),
+        Kind::Group(x) => grouping::group(x, room, a_cells, a_period, a_distance),
+        Kind::Shift(_) => whole(room, a_period, a_distance),
+        Kind::Renumber(_) => whole(
+            room,
+            a_period,
+            counts::granules(a_cells, a_period, a_distance),
+        ),
+        Kind::Alter(by) => altered::alter(
+            by,
+            room,
+            a_cells,
+            a_period,
+            a_distance,
+            b_cells,
+            b_period,
+            b_distance,
+        ),
+        Kind::Combine => spanning::spanned(
+            Alignment::Free,
+            room,
+            a_cells,
+            a_period,
+            a_distance,
+            b_cells,
+            b_period,
+            b_distance,
+        ),
+        Kind::Select(_) => spanning::spanned(
+            Alignment::Free,
+            room,
+            a_cells,
+            a_period,
+            a_distance,
+            b_cells,
+            b_period,
+            b_distance,
+        ),
+        Kind::Anchor => spanning::anchor(
+            room,
+            a_cells,
+            a_period,
+            a_distance,
+            b_cells,
+            b_period,
+            b_distance,
+        ),
+        Kind::ByLabels(_) => spanning::spanned(
+            Alignment::Compatible,
+            room,
+            a_cells,
+            a_period,
+            a_distance,
+            b_cells,
+            b_period,
+            b_distance,
+        ),
+    }
+}

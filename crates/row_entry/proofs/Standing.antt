@@ -1,0 +1,97 @@
+-- Where rows stand one behind the other with their headings, the operand of a heading is its row.
+-- Assumes nothing.
+use mathlib.Core.Path.{_≡_, refl, sym, _∙_, ap, ap₂}
+use mathlib.Core.Bool.{true}
+use mathlib.Core.List.{List, [], _∷_, _++_, append-assoc, List·Memᴰ, List·Memᴰ·head, List·Memᴰ·tail}
+use Prim.Native.Nat.{ℕ, zero, suc, _+_, _-_, _*_, _≤_, _<_}
+use native.Mathlib.Omega.{arith}
+use lib.IntN.{ℤ, pos}
+use lib.ListN.{length, getD, take, drop, replicate, length-append, take-append-drop}
+use lib.Seq.{take-at, drop-append-seam}
+use Rattle.calendar.specs.Meaning.{Row}
+use Rattle.calendar.specs.Checks.{sound}
+use Rattle.calendar.specs.Table.{bottomRow}
+use Rattle.calendar.specs.Stored.{joined, headingsFrom}
+use Rattle.granules.proofs.Sound.{sound-valid}
+use Rattle.kinds.specs.Stands.{end, rowIn}
+use Rattle.row_entry.specs.Stores.{Stores}
+use Rattle.row_entry.specs.Entering.{operandOf}
+
+-- ---- the three numbers of a heading
+
+-- behind the first heading
+behind : (a b c : ℕ) (l : List ℕ) (j : ℕ) → operandOf (a ∷ b ∷ c ∷ l) (suc j) ≡ operandOf l j
+behind a b c l j = λ i. record { start = first i; period = pos (second i); distance = pos (third i) }
+  where
+    at : (m n : ℕ) → m ≡ suc (suc (suc n)) → getD (a ∷ b ∷ c ∷ l) m 0 ≡ getD l n 0
+    at m n e = ap (λ (m : ℕ). getD (a ∷ b ∷ c ∷ l) m 0) e
+
+    first : getD (a ∷ b ∷ c ∷ l) (3 * suc j) 0 ≡ getD l (3 * j) 0
+    first = at (3 * suc j) (3 * j) (omega arith)
+
+    second : getD (a ∷ b ∷ c ∷ l) (3 * suc j + 1) 0 ≡ getD l (3 * j + 1) 0
+    second = at (3 * suc j + 1) (3 * j + 1) (omega arith)
+
+    third : getD (a ∷ b ∷ c ∷ l) (3 * suc j + 2) 0 ≡ getD l (3 * j + 2) 0
+    third = at (3 * suc j + 2) (3 * j + 2) (omega arith)
+
+-- no heading stands there
+alike-at : (n i d : ℕ) → getD (replicate n d) i d ≡ d
+alike-at zero i d = refl
+alike-at (suc n) zero d = refl
+alike-at (suc n) (suc i) d = alike-at n i d
+
+none-ends : (n j : ℕ) → end (operandOf (replicate n 0) j) ≡ 0
+none-ends n j = omega (arith, alike-at n (3 * j) 0, alike-at n (3 * j + 1) 0)
+
+-- ---- all cells of a row are in it
+
+abbrev AllSound : List Row → Type 0
+AllSound l = (r : Row) → List·Memᴰ r l → sound r ≡ true
+
+whole : (r : Row) (l : List Row) → AllSound (r ∷ l) → length (r .cells) ≡ r .period
+whole r l h = sound-valid r (h r (List·Memᴰ·head refl)) .whole
+
+others : (r : Row) (l : List Row) → AllSound (r ∷ l) → AllSound l
+others r l h s m = h s (List·Memᴰ·tail m)
+
+-- the operand j ends before the rows do, which start at s
+ends-from : (l : List Row) (s n j : ℕ) → AllSound l → end (operandOf (headingsFrom s l ++ replicate n 0) j) ≤ s + length (joined l)
+ends-from [] s n j h = omega (arith, none-ends n j)
+ends-from (r ∷ l) s n zero h = simp length-append (omega (arith, whole r l h))
+ends-from (r ∷ l) s n (suc j) h =
+    let ih = ends-from l (s + r .period) n j (others r l h) in
+    let same = ap end (behind s (r .period) (r .distance) (headingsFrom (s + r .period) l ++ replicate n 0) j) in
+    simp length-append (omega (arith, whole r l h))
+
+-- the cells of the first row
+first-cells : (front : List ℤ) (r : Row) (next rest : List ℤ) → length (r .cells) ≡ r .period
+    → take (r .period) (drop (length front) (front ++ ((r .cells ++ next) ++ rest))) ≡ r .cells
+first-cells front r next rest h =
+    ap (take (r .period)) (drop-append-seam front ((r .cells ++ next) ++ rest) ∙ append-assoc (r .cells) next rest) ∙ take-at (r .cells) (next ++ rest) (r .period) h
+
+-- the operand j is the row j
+row-from : (front : List ℤ) (l : List Row) (rest : List ℤ) (n j : ℕ) → AllSound l → j < length l
+    → rowIn (front ++ (joined l ++ rest)) (operandOf (headingsFrom (length front) l ++ replicate n 0) j) ≡ getD l j bottomRow
+row-from front [] rest n j h k = absurd (omega arith)
+row-from front (r ∷ l) rest n zero h k = λ i. record { period = r .period; distance = r .distance; cells = first-cells front r (joined l) rest (whole r l h) i }
+row-from front (r ∷ l) rest n (suc j) h k =
+    let numbers = headingsFrom (length front + r .period) l ++ replicate n 0 in
+    let cells : front ++ ((r .cells ++ joined l) ++ rest) ≡ (front ++ r .cells) ++ (joined l ++ rest) = simp append-assoc in
+    let next : length front + r .period ≡ length (front ++ r .cells) = simp length-append (omega (arith, whole r l h)) in
+    ap₂ rowIn cells (behind (length front) (r .period) (r .distance) numbers j ∙ ap (λ (s : ℕ). operandOf (headingsFrom s l ++ replicate n 0) j) next)
+    ∙ row-from (front ++ r .cells) l rest n j (others r l h) (omega arith)
+
+-- ---- in a pool
+
+module _ {l : List Row} {headings : List ℕ} {pool : List ℤ} {used : ℕ} (s : Stores l headings pool used) where
+  pub operand-ends : (j : ℕ) → end (operandOf headings j) ≤ used
+  operand-ends j =
+      let n = length headings - length (headingsFrom 0 l) in
+      omega (arith, s .ends, ap (λ (h : List ℕ). end (operandOf h j)) (s .numbers), ends-from l 0 n j (s .all-sound))
+
+  pub operand-row : (j : ℕ) → j < length l → rowIn pool (operandOf headings j) ≡ getD l j bottomRow
+  operand-row j h =
+      let pool-is : pool ≡ joined l ++ drop used pool = sym (take-append-drop used pool) ∙ ap (λ (c : List ℤ). c ++ drop used pool) (s .cells) in
+      ap₂ (λ (p : List ℤ) (n : List ℕ). rowIn p (operandOf n j)) pool-is (s .numbers)
+      ∙ row-from [] l (drop used pool) (length headings - length (headingsFrom 0 l)) j (s .all-sound) h

@@ -1,0 +1,208 @@
+// The row of an entry that has passed checks 4 to 6, entered behind the rows of the entries before it.
+
+ghost use mathlib.Core.Path.{_≡_};
+ghost use mathlib.Core.List.{List, _∷_, _++_};
+ghost use Prim.Native.Nat.{_+_, _-_, _*_, _≤_};
+ghost use lib.IntN.{pos};
+ghost use lib.Signed.{_≤ℤ_};
+ghost use lib.ListN.{length, take, drop};
+ghost use Rattle.integers.specs.Parts.{up};
+ghost use Rattle.calendar.specs.Meaning.{Row};
+ghost use Rattle.calendar.specs.Checks.{poolLimit};
+ghost use Rattle.calendar.specs.Questions.{given};
+ghost use Rattle.calendar.specs.Least.{least};
+ghost use Rattle.calendar.specs.Reply.Reply.{answer};
+ghost use Rattle.calendar.specs.Table.{converted, judged};
+ghost use Rattle.entries.specs.Entries.{entryOf};
+ghost use Rattle.kinds.specs.Operations.{operands, Numbers, SoundFirst};
+ghost use Rattle.kinds.specs.Stands.{end, rowIn};
+ghost use Rattle.operand_checks.specs.Admission.{admission, checkedOf};
+ghost use Rattle.row_entry.specs.Stores.{Stores};
+ghost use Rattle.row_entry.specs.Entering.{operandOf, over, NamedDue, Before, Enterable, Worked, Added, Became};
+use calendar::Refusal;
+use operand_checks::Checked;
+use operand_checks::Extent;
+use fill_shared::Filled;
+use kinds::Kind;
+use kinds::Operand;
+
+// How many numbers a heading has: start, period and distance.
+pub const HEADING_LENGTH: usize = 3;
+
+// What entering the row of an entry comes to: a refusal, by its number, or the row ends before that cell.
+pub enum Entry {
+    Refused(u32),
+    Ends(usize),
+}
+
+// The row whose heading is the j-th.
+fn operand_at(headings: &[u32], j: usize) -> Operand
+    requires { ⌜ 3 * j + 3 ≤ length (now headings) ⌝ }
+    ensures { λ r. ⌜ r ≡ operandOf (now (headings .entry)) j ⌝ }
+{
+    let at = HEADING_LENGTH * j;
+    Operand {
+        start: headings[at] as usize,
+        period: headings[at + 1] as i64,
+        distance: headings[at + 2] as i64,
+    }
+}
+
+// The cell behind the last one of the row.
+fn end_of(a: Operand) -> usize
+    requires { ⌜ Before poolLimit a ⌝ }
+    ensures { λ r. ⌜ r ≡ end a ⌝ }
+{
+    a.start + a.period as usize
+}
+
+// A number of a heading.
+fn number(z: i64) -> u32
+    requires { ⌜ (pos 0 ≤ℤ z) × (z ≤ℤ pos poolLimit) ⌝ }
+    ensures { λ r. ⌜ r ≡ up z ⌝ }
+{
+    z as u32
+}
+
+// Writes the k-th heading.
+fn write_heading(headings: &mut [u32], k: usize, start: u32, period: u32, distance: u32)
+    requires { ⌜ 3 * k + 3 ≤ length (now headings) ⌝ }
+    ensures { λ r. ⌜ now (headings .exit) ≡ take (3 * k) (now (headings .entry)) ++ (start ∷ period ∷ distance ∷ drop (3 * k + 3) (now (headings .entry))) ⌝ }
+{
+    let at = HEADING_LENGTH * k;
+    headings[at] = start;
+    headings[at + 1] = period;
+    headings[at + 2] = distance;
+}
+
+// The checks of an operation over rows of the pool.
+fn check_in(kind: Kind, room: i64, pool: &[i32], a: Operand, b: Operand) -> Checked
+    requires { ⌜ Numbers kind ⌝ }
+    requires { ⌜ SoundFirst (operands kind) (rowIn (now pool) a) (rowIn (now pool) b) ⌝ }
+    requires { ⌜ Before (length (now pool)) a ⌝ }
+    requires { ⌜ Before (length (now pool)) b ⌝ }
+    requires { ⌜ length (now pool) ≤ poolLimit ⌝ }
+    requires { ⌜ (pos 0 ≤ℤ room) × (room ≤ℤ pos poolLimit) ⌝ }
+    ensures { λ r. ⌜ r ≡ checkedOf (admission (over kind (now (pool .entry)) a b) (up room)) ⌝ }
+{
+    let a_start = a.start;
+    let a_end = end_of(a);
+    let b_start = b.start;
+    let b_end = end_of(b);
+    operand_checks::check(
+        kind,
+        room,
+        &pool[a_start..a_end],
+        a.period,
+        a.distance,
+        &pool[b_start..b_end],
+        b.period,
+        b.distance,
+    )
+}
+
+// The least period of the working row from `used` on.
+fn least_of(period: i64, distance: i64, used: usize, pool: &[i32]) -> i64
+    requires { ⌜ Worked period distance used (now pool) ⌝ }
+    ensures { λ r. ⌜ r ≡ pos (least (given period distance (take (up period) (drop used (now (pool .entry))))) .period) ⌝ }
+{
+    let end = used + period as usize;
+    least_form::least_period(&pool[used..end], period, distance)
+}
+
+// Writes the heading of the least row of the working row from `used` on; the answer is the cell behind the least row.
+fn finish(
+    period: i64,
+    distance: i64,
+    k: usize,
+    used: usize,
+    headings: &mut [u32],
+    pool: &[i32],
+) -> usize
+    requires { ⌜ Worked period distance used (now pool) ⌝ }
+    requires { ⌜ 3 * k + 3 ≤ length (now headings) ⌝ }
+    ensures { λ r. ⌜ Added k used (now (headings .entry)) (now (pool .entry)) (least (given period distance (take (up period) (drop used (now (pool .entry)))))) r (now (headings .exit)) (now (pool .entry)) ⌝ }
+{
+    let least = least_of(period, distance, used, pool);
+    let rise = least_form::least_distance(period, distance, least);
+    write_heading(
+        headings,
+        k,
+        number(used as i64),
+        number(least),
+        number(rise),
+    );
+    used + least as usize
+}
+
+// Fills in the working row of an operation that has passed its checks, and enters its least row.
+fn write(
+    kind: Kind,
+    extent: Extent,
+    a: Operand,
+    b: Operand,
+    k: usize,
+    used: usize,
+    headings: &mut [u32],
+    pool: &mut [i32],
+) -> Entry
+    requires { ⌜ Enterable kind a b k used (now headings) (now pool) ⌝ }
+    requires { ⌜ admission (over kind (now pool) a b) (length (now pool) - used) ≡ answer extent ⌝ }
+    ensures lengths { λ r. ⌜ (length (now (headings .exit)) ≡ length (now (headings .entry))) × (length (now (pool .exit)) ≡ length (now (pool .entry))) ⌝ }
+    ensures became { λ r. ⌜ Became k used (now (headings .entry)) (now (pool .entry)) (converted (over kind (now (pool .entry)) a b) (length (now (pool .entry)) - used)) r (now (headings .exit)) (now (pool .exit)) ⌝ }
+{
+    let filled = fill::fill(kind, extent.span, used, extent.period as usize, pool, a, b);
+    match filled {
+        Filled::Unlabelled => Entry::Refused(Refusal::NothingLabelled.number()),
+        Filled::OutOfRange => Entry::Refused(Refusal::LabelOutsideLimits.number()),
+        Filled::Labelled => Entry::Ends(finish(
+            extent.period,
+            extent.distance,
+            k,
+            used,
+            headings,
+            pool,
+        )),
+    }
+}
+
+// Enters the row of an operation over rows of the pool.
+fn enter(
+    kind: Kind,
+    a: Operand,
+    b: Operand,
+    k: usize,
+    used: usize,
+    headings: &mut [u32],
+    pool: &mut [i32],
+) -> Entry
+    requires { ⌜ Enterable kind a b k used (now headings) (now pool) ⌝ }
+    ensures lengths { λ r. ⌜ (length (now (headings .exit)) ≡ length (now (headings .entry))) × (length (now (pool .exit)) ≡ length (now (pool .entry))) ⌝ }
+    ensures became { λ r. ⌜ Became k used (now (headings .entry)) (now (pool .entry)) (converted (over kind (now (pool .entry)) a b) (length (now (pool .entry)) - used)) r (now (headings .exit)) (now (pool .exit)) ⌝ }
+{
+    let room = pool.len() - used;
+    let checked = check_in(kind, room as i64, pool, a, b);
+    match checked {
+        Checked::Refused(n) => Entry::Refused(n),
+        Checked::Passed(extent) => write(kind, extent, a, b, k, used, headings, pool),
+    }
+}
+
+// Enters the row of an entry that has passed checks 4, 5 and 6.
+pub fn enter_named(
+    e: entries::Entry,
+    k: usize,
+    used: usize,
+    headings: &mut [u32],
+    pool: &mut [i32],
+) -> Entry
+    requires { ⌜ NamedDue e k (now headings) (now pool) used ⌝ }
+    ensures lengths { λ r. ⌜ (length (now (headings .exit)) ≡ length (now (headings .entry))) × (length (now (pool .exit)) ≡ length (now (pool .entry))) ⌝ }
+    ensures became { λ r. ⌜ ((l : List Row) → length l ≡ k → Stores l (now (headings .entry)) (now (pool .entry)) used → Became k used (now (headings .entry)) (now (pool .entry)) (judged l (length (now (pool .entry)) - used) (entryOf e)) r (now (headings .exit)) (now (pool .exit))) ⌝ }
+{
+    let named = naming::names(e);
+    let kind = named.kind;
+    let first = operand_at(headings, named.first);
+    let second = operand_at(headings, named.second);
+    enter(kind, first, second, k, used, headings, pool)
+}

@@ -1,0 +1,174 @@
+-- `select_granules::taking::picked_from_first` meets its contract: Pick takes what the tally from its start on says.
+-- Assumes nothing.
+use borrow.Author.Needs.{sfits-of}
+use mathlib.Core.Path.{_≡_, refl, sym, _∙_, ap}
+use mathlib.Core.List.{List}
+use native.Mathlib.Omega.{arith}
+use lib.IntN.{ℤ, pos, _+ℤ_, _-ℤ_}
+use lib.Signed.{_≤ℤ_, _<ℤ_}
+use lib.ListN.{length}
+use mir.Syntax.{w64}
+use mir.Val.{SFits}
+use Rattle.integers.proofs.Linear.{ints, _∴_}
+use Rattle.integers.proofs.Machine.{plain}
+use Rattle.calendar.specs.Meaning.{Row}
+use Rattle.calendar.specs.Questions.{given}
+use Rattle.calendar.specs.Table.{million}
+use Rattle.granules.specs.Valid.{Valid}
+use Rattle.granules.proofs.Questions.{first-at-most}
+use Rattle.cursors.proofs.Numbers.{valid}
+use Rattle.cursors.proofs.Bounds.{first-bounds}
+use Rattle.candidates.specs.Tallies.{candidates, Begins, tallyOf}
+use Rattle.candidates.proofs.Tallying.{tally-fields}
+use Rattle.candidates.proofs.Candidates.{candidates-lists}
+use Rattle.select_granules.specs.declared.Picked.{Picked}
+use Rattle.select_granules.specs.Memos.{pickedOf}
+use Rattle.select_granules.proofs.Starts.{start-above, picks}
+use Rattle.select_granules.proofs.taking.picked_from_first.Statement.{statement}
+use Rattle.select_granules.proofs.taking.picked_from_first.Tie as tie
+
+abbrev a-row : tie.Start → Row
+a-row s = given (s .args .a-period) (s .args .a-distance) (s .args .a-cells .now)
+
+abbrev b-row : tie.Start → Row
+b-row s = given (s .args .b-period) (s .args .b-distance) (s .args .b-cells .now)
+
+-- the granules in question
+abbrev asked : tie.Start → List ℤ
+asked s = candidates (s .args .whole) (a-row s) (b-row s) (s .args .i)
+
+a-rules : (s : tie.Start) → Valid (a-row s)
+a-rules s = valid (s .args .a-period) (s .args .a-distance) (s .args .a-cells .now) (s .pre .0)
+
+b-rules : (s : tie.Start) → Valid (b-row s)
+b-rules s = valid (s .args .b-period) (s .args .b-distance) (s .args .b-cells .now) (s .pre .1 .0)
+
+-- ---- the first instant of the granule
+
+first-of-requires : tie.Need-first-of-requires
+first-of-requires s κs =
+    let p = s .fits .a-period in
+    let n = s .fits .a-distance in
+    let q = s .fits .b-period in
+    let m = s .fits .b-distance in
+    let i = s .fits .i in
+    let t = s .fits .t in
+    let r = s .pre .1 .1 .1 .1 in
+    simp plain (s .pre .1 .0, (s .pre .0, (r .0, (r .1 .0, (r .1 .1 .1, r .1 .1 .0)))))
+
+first-fits : (c : tie.After-first-of) → SFits w64 (c .first-of .result .at)
+first-fits c = let l = c .first-of .ensures .1 .1 .1 in l .0 ∴ l .1 ∴ simp ints (omega arith)
+
+begins : (c : tie.After-first-of) → let s = c .before in Begins (b-row s) (s .args .i) (c .first-of .result .at)
+begins c =
+    let s = c .before in
+    let q = s .fits .b-period in
+    let m = s .fits .b-distance in
+    let i = s .fits .i in
+    let r = b-row s in
+    let f = first-bounds r (b-rules s) (s .args .t) (s .args .i) (s .pre .1 .1 .1 .1 .1 .0) in
+    let e = simp plain at (c .first-of .ensures .0) in
+    record { near = c .first-of .ensures .1 .1 .1; label = rw e (f .0); least = rw e (first-at-most r (b-rules s) (s .args .i)) }
+
+-- ---- the positions
+
+-- the numbers on the way
+record Sums (x y : ℤ) : Type 0 where
+  pub x-fits : SFits w64 x
+  pub y-fits : SFits w64 y
+  pub sum-fits : SFits w64 (x +ℤ y)
+  pub high-fits : SFits w64 (x +ℤ y -ℤ pos 1)
+
+sums-of : (x y : ℤ) → pos 0 <ℤ x → x ≤ℤ million → pos 1 ≤ℤ y → y ≤ℤ million → Sums x y
+sums-of x y g h l k = record {
+  x-fits = g ∴ h ∴ simp ints (omega arith);
+  y-fits = l ∴ k ∴ simp ints (omega arith);
+  sum-fits = g ∴ h ∴ l ∴ k ∴ simp ints (omega arith);
+  high-fits = g ∴ h ∴ l ∴ k ∴ simp ints (omega arith);
+}
+
+sums : (s : tie.Start) → Sums (s .args .pick .x) (s .args .pick .y)
+sums s = let l = s .pre .1 .1 .0 in sums-of _ _ (s .pre .1 .1 .1 .0) (l .x-high) (l .y-low) (l .y-high)
+
+add-tallied : tie.Need-add-tallied
+add-tallied c =
+    let s = c .before .before .before in
+    let x = sums s .x-fits in
+    let y = sums s .y-fits in
+    simp plain (sums s .sum-fits)
+
+sub-tallied : tie.Need-sub-tallied
+sub-tallied c =
+    let s = c .before .before .before in
+    let l = s .pre .1 .1 .0 in
+    let x = sums s .x-fits in
+    let y = sums s .y-fits in
+    let e = sums s .sum-fits in
+    simp plain (s .pre .1 .1 .1 .0 ∴ l .x-high ∴ l .y-low ∴ l .y-high ∴ simp ints (omega arith))
+
+-- ---- what stands there
+
+tallied-requires : tie.Need-tallied-requires
+tallied-requires c κs =
+    let d = c .before .before .before .before in
+    let s = d .before in
+    let p = s .fits .a-period in
+    let n = s .fits .a-distance in
+    let q = s .fits .b-period in
+    let m = s .fits .b-distance in
+    let i = s .fits .i in
+    let t = first-fits d in
+    let e = d .first-of .ensures .1 in
+    simp plain (s .pre .0, (s .pre .1 .0, (begins d, (simp plain at (e .1 .0), simp plain at (e .0)))))
+
+abbrev begun : tie.After-tallied → tie.Start
+begun c = c .before .before .before .before .before .before
+
+abbrev low : tie.Start → ℤ
+low s = s .args .pick .x
+
+abbrev high : tie.Start → ℤ
+high s = s .args .pick .x +ℤ s .args .pick .y -ℤ pos 1
+
+picked-of-requires : tie.Need-picked-of-requires
+picked-of-requires c κs = tt
+
+ends-are : (c : tie.After-tallied) → let s = begun c in let all = tallyOf (low s) (high s) (asked s) in
+    (c .tallied .result .low ≡ all .low) × (c .tallied .result .high ≡ all .high)
+ends-are c =
+    let s = begun c in
+    let p = s .fits .a-period in
+    let n = s .fits .a-distance in
+    let q = s .fits .b-period in
+    let m = s .fits .b-distance in
+    let i = s .fits .i in
+    let x = sums s .x-fits in
+    let y = sums s .y-fits in
+    let e = sums s .sum-fits in
+    let h = sums s .high-fits in
+    simp plain at (c .tallied .ensures)
+
+picked-is : (c : tie.After-picked-of) → let t = c .before .before .before in c .picked-of .result ≡ pickedOf (begun t .args .i) (t .tallied .result .low) (t .tallied .result .high)
+picked-is c =
+    let t = c .before .before .before in
+    let i = begun t .fits .i in
+    let l : SFits w64 (t .tallied .result .low) = sfits-of (c .before .before .struct-told4 .given .1 .0 .1) in
+    let h : SFits w64 (t .tallied .result .high) = sfits-of (c .before .before .struct-told4 .given .1 .1 .0 .1) in
+    simp plain at (c .picked-of .ensures)
+
+returns : tie.Need-returns
+returns c =
+    let t = c .before .before .before in
+    let s = begun t in
+    let e = picked-is c in
+    let f = ends-are t in
+    let all = tally-fields (low s) (high s) (asked s) (tallyOf (low s) (high s) (asked s)) refl in
+    let r = candidates-lists (s .args .whole) (a-row s) (b-row s) (a-rules s) (b-rules s) (s .args .i) .rising in (
+      (ap (λ (m : Picked). m .known) e, ap (λ (m : Picked). m .of) e),
+      picks (s .args .pick) (asked s) r (low s) (high s) (sym (start-above (low s) (length (asked s)) (s .pre .1 .1 .1 .0))) refl (s .pre .1 .1 .0 .y-low) (c .picked-of .result)
+          (ap (λ (m : Picked). m .low) e ∙ f .0 ∙ all .low-is)
+          (ap (λ (m : Picked). m .high) e ∙ f .1 ∙ all .high-is),
+    )
+
+pub picked-from-first-spec : {M : Type 1} → statement M
+picked-from-first-spec = tie.close (tie.spec first-of-requires add-tallied sub-tallied tallied-requires picked-of-requires returns)
