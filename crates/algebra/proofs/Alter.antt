@@ -19,7 +19,7 @@ use Rattle.calendar.specs.Operation.Binary.{alter}
 use Rattle.calendar.specs.Operation.Operation.{binary}
 use Rattle.calendar.specs.Algebra.{Spans, alteredFirst, alteredLast, Labels}
 use Rattle.calendar.specs.Lists.{onLabel}
-use Rattle.calendar.specs.Size.{size}
+use Rattle.calendar.specs.Distance.{size}
 use Rattle.calendar.specs.Compute.{firstFine, lastFine, result}
 use Rattle.granules.proofs.Tests.{some-inj, none≢some}
 use Rattle.granules.proofs.Calendars.{repeats-many}

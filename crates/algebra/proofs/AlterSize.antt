@@ -12,7 +12,8 @@ use Rattle.integers.proofs.Divisors.{gcd-dvd, gcd-pos}
 use Rattle.calendar.specs.Meaning.{Row}
 use Rattle.calendar.specs.Operation.Binary.{alter}
 use Rattle.calendar.specs.Operation.Operation.{binary}
-use Rattle.calendar.specs.Size.{turn, coarse, fine, size}
+use Rattle.calendar.specs.Size.{turn, coarse, fine}
+use Rattle.calendar.specs.Distance.{size}
 
 -- n and D
 abbrev pub coarseOf : ℕ → Row → Row → ℕ

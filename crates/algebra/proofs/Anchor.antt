@@ -14,7 +14,8 @@ use Rattle.calendar.specs.Operation.Binary.{anchor}
 use Rattle.calendar.specs.Operation.Operation.{binary}
 use Rattle.calendar.specs.Algebra.{Subcalendar}
 use Rattle.calendar.specs.Lists.{from, last, onLabel, distinct}
-use Rattle.calendar.specs.Size.{size, turn, spanOf, rise}
+use Rattle.calendar.specs.Size.{turn, spanOf, rise}
+use Rattle.calendar.specs.Distance.{size}
 use Rattle.calendar.specs.Compute.{result, anchored}
 use Rattle.granules.specs.Valid.{Valid}
 use Rattle.granules.proofs.Tests.{some-inj, none≢some, none-or-some}

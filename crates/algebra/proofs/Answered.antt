@@ -9,12 +9,15 @@ use lib.IntN.{pos}
 use Rattle.integers.proofs.Linear.{ints}
 use Rattle.calendar.specs.Meaning.{Row, IsCalendar, LeastRow}
 use Rattle.calendar.specs.Operation.{Operation, mapOperation}
-use Rattle.calendar.specs.Size.{turn, span, size}
+use Rattle.calendar.specs.Size.{turn, span}
+use Rattle.calendar.specs.Distance.{size}
 use Rattle.calendar.specs.Compute.{result, working}
-use Rattle.calendar.specs.Checks.{fullOperands, aligned, emptied, unlabelled, labelsInRange, inRange, labelsOf, cellsInRange, poolLimit, sound}
+use Rattle.calendar.specs.Checks.{fullOperands, aligned, emptied, unlabelled, labelsInRange}
+use Rattle.calendar.specs.Limits.{inRange, poolLimit}
+use Rattle.calendar.specs.Sound.{labelsOf, cellsInRange, sound}
 use Rattle.calendar.specs.Least.{least}
 use Rattle.calendar.specs.Reply.Reply.{answer}
-use Rattle.calendar.specs.Table.{converted}
+use Rattle.calendar.specs.Outcome.{converted}
 use Rattle.granules.specs.Valid.{Valid}
 use Rattle.granules.proofs.Tests.{not-iff, leb-iff, false-iff}
 use Rattle.granules.proofs.Lists.{all-iff}

@@ -10,7 +10,8 @@ use Rattle.calendar.specs.Operation.Binary.{combine}
 use Rattle.calendar.specs.Operation.Operation.{binary}
 use Rattle.calendar.specs.Lists.{onLabel, only}
 use Rattle.calendar.specs.Granules.{inside}
-use Rattle.calendar.specs.Size.{turn, spanOf, rise, size}
+use Rattle.calendar.specs.Size.{turn, spanOf, rise}
+use Rattle.calendar.specs.Distance.{size}
 use Rattle.calendar.specs.Compute.{result}
 use Rattle.granules.specs.Valid.{Valid}
 use Rattle.granules.proofs.Tests.{only-iff}

@@ -11,13 +11,14 @@ use lib.IntN.{ℤ}
 use Rattle.calendar.specs.Meaning.{Row, Calendar, meant, Has, IsCalendar, LeastRow}
 use Rattle.calendar.specs.Operation.{Operation, mapOperation}
 use Rattle.calendar.specs.Algebra.{Result, FullOperands, Aligned, Emptied}
-use Rattle.calendar.specs.Size.{Turn, turn, span, size, workingPeriod}
+use Rattle.calendar.specs.Size.{Turn, turn, span, workingPeriod}
+use Rattle.calendar.specs.Distance.{size}
 use Rattle.calendar.specs.Compute.{result, working}
 use Rattle.calendar.specs.Checks.{fullOperands, aligned, emptied, unlabelled, labelsInRange}
 use Rattle.calendar.specs.Least.{least}
 use Rattle.calendar.specs.Reply.{Reply, require}
 use Rattle.calendar.specs.Reply.Reply.{refused, answer}
-use Rattle.calendar.specs.Table.{converted}
+use Rattle.calendar.specs.Outcome.{converted}
 use Rattle.granules.specs.Valid.{Valid}
 use Rattle.granules.proofs.Tests.{not-iff, leb-iff, false-iff, label-ext}
 use Rattle.granules.proofs.Calendars.{periods-proportional}

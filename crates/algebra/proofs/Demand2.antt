@@ -7,21 +7,23 @@ use Prim.Native.Nat.{ℕ, zero, suc, _-_, _≤_, _<_}
 use native.Mathlib.Omega.{arith}
 use lib.IntN.{ℤ}
 use lib.ListN.{length, getD}
-use Rattle.calendar.specs.Meaning.{Row}
+use Rattle.calendar.specs.Meaning.{Row, bottomRow}
 use Rattle.calendar.specs.Operation.{Operation, mapOperation}
 use Rattle.calendar.specs.Size.{Turn}
-use Rattle.calendar.specs.Checks.{sound}
+use Rattle.calendar.specs.Sound.{sound}
 use Rattle.calendar.specs.Reply.{Reply, andThen}
 use Rattle.calendar.specs.Reply.Reply.{refused, answer}
-use Rattle.calendar.specs.Table.{Entry, entryAt, named, converted, judged, atRows, bottomRow, entries, admitted, outcome}
-use Rattle.calendar.specs.Table.Outcome.{rows}
+use Rattle.calendar.specs.Table.{Entry, entryAt, named, admitted}
+use Rattle.calendar.specs.Outcome.{converted, judged, atRows, entries, outcome}
+use Rattle.calendar.specs.Outcome.Outcome.{rows}
 use Rattle.calendar.specs.Stored.{joined}
 use Rattle.algebra.specs.TableMeaning.{Meant, nothing, EntryJudged, Entries, TableReply, TableMeans}
 use Rattle.algebra.specs.TableMeaning.EntryJudged.{unread, read}
 use Rattle.algebra.specs.TableMeaning.Entries.{done, stop, next}
 use Rattle.algebra.specs.TableMeaning.TableReply.{refusedAt, means}
 use Rattle.algebra.specs.TableMeaning.TableMeans.{not-admitted, entries as by-entries}
-use Rattle.algebra.specs.Represents.{Represents, RepresentsAll, Agrees}
+use Rattle.algebra.specs.Represents.{Represents}
+use Rattle.algebra.specs.Agrees.{RepresentsAll, Agrees}
 use Rattle.algebra.proofs.Operations.{operands-weaken}
 use Rattle.algebra.proofs.Converted.{JudgedAs, converted-judged}
 use Rattle.algebra.proofs.Named.{named-operation}

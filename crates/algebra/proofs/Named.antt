@@ -13,8 +13,8 @@ use Rattle.integers.proofs.Linear.{ints, _∴_}
 use Rattle.integers.proofs.Order.{up-pos}
 use Rattle.calendar.specs.Operation.{Unary, Binary, Operation}
 use Rattle.calendar.specs.Reply.Reply.{answer}
-use Rattle.calendar.specs.Checks.{between}
-use Rattle.calendar.specs.Table.{Entry, Kind, kinds, one, two, none, million, zero?, earlier, named}
+use Rattle.calendar.specs.Limits.{between, million}
+use Rattle.calendar.specs.Table.{Entry, Kind, kinds, one, two, noOperand, zero?, earlier, named}
 use Rattle.granules.proofs.Tests.{true≢false, and-iff, leZ-iff, ltb-iff}
 use Rattle.algebra.specs.Ready.{Operands, Factor, FactorUnary, FactorBinary}
 use Rattle.algebra.proofs.Operations.{require-answer}
@@ -34,8 +34,8 @@ earlier-lt : (k : ℕ) (z : ℤ) → earlier k z ≡ true → up z < k
 earlier-lt k (pos n) e = ltb-iff n k .0 e
 earlier-lt k (negsuc n) e = absurd (true≢false e refl)
 
-none-good : Good none
-none-good k e p q h = record { factor = tt; operands = tt }
+no-operand-good : Good noOperand
+no-operand-good k e p q h = record { factor = tt; operands = tt }
 
 one-good : (f : Entry → Bool) (u : Entry → Unary) → ((e : Entry) → f e ≡ true → FactorUnary (u e)) → Good (one f u)
 one-good f u h k e p q n = record { factor = h e n; operands = earlier-lt k (e .first) p }
@@ -53,14 +53,14 @@ data AllGood : List Kind → Type 0 where
   end : AllGood []
   _then_ : {m : Kind} {l : List Kind} → Good m → AllGood l → AllGood (m ∷ l)
 
-getD-good : {l : List Kind} → AllGood l → (n : ℕ) → Good (getD l n none)
-getD-good end n = none-good
+getD-good : {l : List Kind} → AllGood l → (n : ℕ) → Good (getD l n noOperand)
+getD-good end n = no-operand-good
 getD-good (h then l) zero = h
 getD-good (h then l) (suc n) = getD-good l n
 
 kinds-good : AllGood kinds
 kinds-good =
-    none-good
+    no-operand-good
     then one-good _ _ (λ e. factor-positive (e .x) _)
     then one-good _ _ (λ e h. tt)
     then two-good _ _ (λ e. factor-positive (e .x) _)
@@ -78,7 +78,7 @@ kinds-good =
 pub named-operation : (k : ℕ) (e : Entry) (o : Operation ℕ) → named k e ≡ answer o → Factor o × Operands (λ j. j < k) o
 unfolding named
 named-operation k e o h =
-    let m = getD kinds (up (e .kind)) none in
+    let m = getD kinds (up (e .kind)) noOperand in
     let n = m .operands in
     let first = ltb n 1 || earlier k (e .first) in
     let second = ltb n 2 || earlier k (e .second) in

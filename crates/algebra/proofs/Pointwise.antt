@@ -13,7 +13,7 @@ use Rattle.integers.proofs.Divisors.{gcd-dvd}
 use Rattle.calendar.specs.Meaning.{Row, meant}
 use Rattle.calendar.specs.Operation.Unary.{group, shift}
 use Rattle.calendar.specs.Operation.Operation.{bottom, unary}
-use Rattle.calendar.specs.Size.{size}
+use Rattle.calendar.specs.Distance.{size}
 use Rattle.calendar.specs.Compute.{result}
 use Rattle.granules.proofs.Tests.{some-inj}
 use Rattle.granules.proofs.Rows.{meant-repeats}

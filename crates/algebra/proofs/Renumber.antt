@@ -17,7 +17,7 @@ use Rattle.calendar.specs.Operation.Operation.{unary}
 use Rattle.calendar.specs.Algebra.{Lists, Renumbered}
 use Rattle.calendar.specs.Lists.{keep, from}
 use Rattle.calendar.specs.Granules.{has, granules}
-use Rattle.calendar.specs.Size.{size}
+use Rattle.calendar.specs.Distance.{size}
 use Rattle.calendar.specs.Compute.{renumbered, result}
 use Rattle.granules.specs.Valid.{Valid}
 use Rattle.granules.proofs.Tests.{leZ-iff, false-iff}

@@ -9,7 +9,8 @@ use Rattle.calendar.specs.Operation.{Operation}
 use Rattle.calendar.specs.Operation.Unary.{group, shift, renumber}
 use Rattle.calendar.specs.Operation.Binary.{alter, combine, anchor, select, by-labels}
 use Rattle.calendar.specs.Operation.Operation.{bottom, unary, binary}
-use Rattle.calendar.specs.Size.{turn, spanOf, rise, size}
+use Rattle.calendar.specs.Size.{turn, spanOf, rise}
+use Rattle.calendar.specs.Distance.{size}
 use Rattle.granules.specs.Valid.{Valid}
 use Rattle.granules.proofs.Count.{granules-at-most}
 use Rattle.algebra.specs.Ready.{Operands, Ready, Right}

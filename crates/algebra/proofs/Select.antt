@@ -15,7 +15,8 @@ use Rattle.calendar.specs.Operation.Operation.{binary}
 use Rattle.calendar.specs.Algebra.{Lists, Picked, Selects, pick}
 use Rattle.calendar.specs.Lists.{any, equal}
 use Rattle.calendar.specs.Granules.{inside, meeting, within}
-use Rattle.calendar.specs.Size.{size, turn, spanOf, rise}
+use Rattle.calendar.specs.Size.{turn, spanOf, rise}
+use Rattle.calendar.specs.Distance.{size}
 use Rattle.calendar.specs.Compute.{result, selects}
 use Rattle.granules.specs.Valid.{Valid}
 use Rattle.granules.proofs.Tests.{test-ext, equal-iff}

@@ -13,7 +13,8 @@ use Rattle.calendar.specs.Operation.Binary.{by-labels}
 use Rattle.calendar.specs.Operation.Operation.{binary}
 use Rattle.calendar.specs.Algebra.{Compatible}
 use Rattle.calendar.specs.Granules.{has}
-use Rattle.calendar.specs.Size.{size, turn, spanOf, rise}
+use Rattle.calendar.specs.Size.{turn, spanOf, rise}
+use Rattle.calendar.specs.Distance.{size}
 use Rattle.calendar.specs.Compute.{result}
 use Rattle.granules.specs.Valid.{Valid}
 use Rattle.granules.proofs.Tests.{none≢some, not-iff, false-iff}

@@ -7,8 +7,9 @@ use lib.ListN.{length}
 use Rattle.calendar.specs.Meaning.{Row}
 use Rattle.calendar.specs.Reply.{Reply, andThen}
 use Rattle.calendar.specs.Reply.Reply.{refused, answer}
-use Rattle.calendar.specs.Table.{Entry, entryAt, named, converted, judged, atRows, entries, admitted, outcome, Outcome}
-use Rattle.calendar.specs.Table.Outcome.{refusedAt, rows}
+use Rattle.calendar.specs.Table.{Entry, entryAt, named, admitted}
+use Rattle.calendar.specs.Outcome.{converted, judged, atRows, entries, outcome, Outcome}
+use Rattle.calendar.specs.Outcome.Outcome.{refusedAt, rows}
 
 -- an entry
 pub judged-is : (before : List Row) (room : ℕ) (e : Entry) → judged before room e ≡ andThen (named (length before) e) (λ o. converted (atRows before o) room)

@@ -8,13 +8,15 @@ use native.Mathlib.Omega.{arith}
 use lib.Dec.{eqb, leb}
 use lib.IntN.{ℤ}
 use lib.ListN.{length, getD, length-append}
-use Rattle.calendar.specs.Meaning.{Row}
+use Rattle.calendar.specs.Meaning.{Row, bottomRow}
 use Rattle.calendar.specs.Operation.{Operation}
-use Rattle.calendar.specs.Checks.{sound, poolLimit}
+use Rattle.calendar.specs.Sound.{sound}
+use Rattle.calendar.specs.Limits.{poolLimit, entryLimit}
 use Rattle.calendar.specs.Reply.{Reply, andThen}
 use Rattle.calendar.specs.Reply.Reply.{refused, answer}
-use Rattle.calendar.specs.Table.{Entry, entryAt, named, converted, judged, atRows, bottomRow, entries, entryLimit, admitted, outcome}
-use Rattle.calendar.specs.Table.Outcome.{rows}
+use Rattle.calendar.specs.Table.{Entry, entryAt, named, admitted}
+use Rattle.calendar.specs.Outcome.{converted, judged, atRows, entries, outcome}
+use Rattle.calendar.specs.Outcome.Outcome.{rows}
 use Rattle.calendar.specs.Stored.{joined}
 use Rattle.granules.proofs.Tests.{leb-iff}
 use Rattle.granules.proofs.Sound.{sound-valid}

@@ -16,9 +16,10 @@ use Rattle.integers.proofs.Floor.{floor-lt}
 use Rattle.calendar.specs.Meaning.{Row, meant, Same, IsCalendar, labelOf, empty, raise}
 use Rattle.calendar.specs.Operation.{Operation}
 use Rattle.calendar.specs.Lists.{all, from, isSome, ifLabel}
-use Rattle.calendar.specs.Size.{size}
+use Rattle.calendar.specs.Distance.{size}
 use Rattle.calendar.specs.Compute.{result, working, cellOf}
-use Rattle.calendar.specs.Checks.{unlabelled, labelsInRange, throughout, inRange, limit}
+use Rattle.calendar.specs.Checks.{unlabelled, labelsInRange, throughout}
+use Rattle.calendar.specs.Limits.{inRange, labelLimit}
 use Rattle.granules.specs.Valid.{Valid}
 use Rattle.granules.proofs.Tests.{and-iff, not-iff, false-iff, true≢false, leZ-iff, isSome-iff, ifLabel-iff}
 use Rattle.granules.proofs.Lists.{all-iff, mem-from, length-from}
@@ -40,7 +41,7 @@ throughout-iff o f =
       λ h. i .1 (λ t m. let k = mem-from t (pos 0) (size o .period) .0 m in h t (k .0) (k .1 ∴ simp ints (omega arith))),
     )
 
-pub inRange-iff : (j : ℤ) → (inRange j ≡ true) ↔ ((negℤ limit ≤ℤ j) × (j ≤ℤ limit))
+pub inRange-iff : (j : ℤ) → (inRange j ≡ true) ↔ ((negℤ labelLimit ≤ℤ j) × (j ≤ℤ labelLimit))
 inRange-iff j = simp (and-iff, leZ-iff) (λ h. h, λ h. h)
 
 pub unlabelled-iff : (o : Operation Row) → Right o → (unlabelled o ≡ true) ↔ (¬ (Labelled (meaning o)))
@@ -77,7 +78,7 @@ labelled-some o r e =
 
 -- a label of the working row that passes check 11 is in range
 pub labels-in-range : (o : Operation Row) → labelsInRange o ≡ true → (t : ℤ) → pos 0 ≤ℤ t → t <ℤ pos (size o .period)
-    → (j : ℤ) → result o t ≡ some j → (negℤ limit ≤ℤ j) × (j ≤ℤ limit)
+    → (j : ℤ) → result o t ≡ some j → (negℤ labelLimit ≤ℤ j) × (j ≤ℤ labelLimit)
 unfolding labelsInRange
 labels-in-range o e t low high j h =
     inRange-iff j .0 (ifLabel-iff (result o t) inRange .0 (throughout-iff o (λ l. ifLabel l inRange) .0 e t low high) j h)
@@ -98,11 +99,11 @@ getD-map-from f d t (suc n) zero h = ap f (simp ints (omega arith))
 getD-map-from f d t (suc n) (suc k) h = getD-map-from f d (t +ℤ pos 1) n k (omega arith) ∙ ap f (simp ints (omega arith))
 
 -- a label in range is no empty mark
-cell-label : (l : Option ℤ) → ((j : ℤ) → l ≡ some j → (negℤ limit ≤ℤ j) × (j ≤ℤ limit)) → labelOf (cellOf l) ≡ l
+cell-label : (l : Option ℤ) → ((j : ℤ) → l ≡ some j → (negℤ labelLimit ≤ℤ j) × (j ≤ℤ labelLimit)) → labelOf (cellOf l) ≡ l
 cell-label none h = refl
 cell-label (some j) h = by (cell-cases j) (h j refl)
   where
-    by : ((labelOf j ≡ none) × (j ≡ empty)) ⊎ (labelOf j ≡ some j) → (negℤ limit ≤ℤ j) × (j ≤ℤ limit) → labelOf j ≡ some j
+    by : ((labelOf j ≡ none) × (j ≡ empty)) ⊎ (labelOf j ≡ some j) → (negℤ labelLimit ≤ℤ j) × (j ≤ℤ labelLimit) → labelOf j ≡ some j
     by (inl p) k = absurd (p .1 ∴ k ∴ simp ints (omega arith))
     by (inr e) k = e
 

@@ -1,7 +1,9 @@
 -- What the theorems on the computed conversion are about.
---     Ready            an operation over rows that has passed its checks
 --     TableMeaning     the meaning of a table, over calendars alone
---     Represents       which rows stand for which calendars
-pub mod Ready
+--     Represents       which row stands for which calendar
+--     Ready            an operation over rows that has passed its checks
+--     Agrees           when a computed outcome is what the table means
 pub mod TableMeaning
 pub mod Represents
+pub mod Ready
+pub mod Agrees

@@ -10,7 +10,7 @@ use Rattle.calendar.specs.Operation.Unary.{group, shift, renumber}
 use Rattle.calendar.specs.Operation.Binary.{alter, combine, anchor, select, by-labels}
 use Rattle.calendar.specs.Operation.Operation.{bottom, unary, binary}
 use Rattle.calendar.specs.Algebra.{Labels, FullOperands, Aligned, Emptied}
-use Rattle.calendar.specs.Size.{size}
+use Rattle.calendar.specs.Distance.{size}
 use Rattle.calendar.specs.Compute.{result}
 use Rattle.granules.specs.Valid.{Valid}
 

@@ -1,29 +1,11 @@
--- Which rows stand for which calendars.
+-- Which row stands for which calendar.
 use mathlib.Core.Path.{_≡_}
-use mathlib.Core.List.{List, [], _∷_}
-use Prim.Native.Nat.{ℕ}
 use Rattle.calendar.specs.Meaning.{Row, IsCalendar, LeastRow}
 use Rattle.calendar.specs.Size.{turn}
-use Rattle.calendar.specs.Table.{Outcome}
-use Rattle.algebra.specs.TableMeaning.{Meant, TableReply}
-use Rattle.algebra.specs.TableMeaning.TableReply.{refusedAt, means}
+use Rattle.algebra.specs.TableMeaning.{Meant}
 
 -- r is the least row of the calendar that an entry means
 pub record Represents (m : Meant) (r : Row) : Type 0 where
   pub calendar : IsCalendar (m .calendar)
   pub least : LeastRow (m .calendar) r
   pub turn : m .turn ≡ turn r
-
--- one by one
-abbrev pub RepresentsAll : List Meant → List Row → Type 0
-RepresentsAll [] [] = Unit {0}
-RepresentsAll [] (r ∷ rs) = ⊥
-RepresentsAll (m ∷ ms) [] = ⊥
-RepresentsAll (m ∷ ms) (r ∷ rs) = Represents m r × RepresentsAll ms rs
-
--- the outcome of a conversion is what the table means: the same refusal at the same entry, or the least rows of the calendars
-abbrev pub Agrees : TableReply → Outcome → Type 0
-Agrees (refusedAt m k) (Outcome.refusedAt n l) = (m ≡ n) × (k ≡ l)
-Agrees (refusedAt m k) (Outcome.rows rs) = ⊥
-Agrees (means ms) (Outcome.refusedAt n l) = ⊥
-Agrees (means ms) (Outcome.rows rs) = RepresentsAll ms rs

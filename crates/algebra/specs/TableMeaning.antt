@@ -6,11 +6,11 @@ use Prim.Native.Nat.{ℕ, zero, suc, _-_, _≤_, _<_}
 use lib.IntN.{ℤ, pos, negℤ}
 use lib.Signed.{_≤ℤ_, _<ℤ_}
 use lib.ListN.{length, getD}
-use Rattle.calendar.specs.Meaning.{Calendar, Has, Repeats, IsCalendar}
+use Rattle.calendar.specs.Meaning.{Calendar, Repeats, IsCalendar}
 use Rattle.calendar.specs.Operation.{Operation, mapOperation}
 use Rattle.calendar.specs.Algebra.{Labels, Result, FullOperands, Aligned, Emptied}
 use Rattle.calendar.specs.Size.{Turn, span, workingPeriod}
-use Rattle.calendar.specs.Checks.{limit}
+use Rattle.calendar.specs.Limits.{labelLimit}
 use Rattle.calendar.specs.Reply.{Reply}
 use Rattle.calendar.specs.Reply.Reply.{refused, answer}
 use Rattle.calendar.specs.Table.{Entry, entryAt, named, admitted}
@@ -60,7 +60,7 @@ Labelled o = (t : ℤ) × (i : ℤ) × Labels o t i
 
 -- each label of the instants 0 to P − 1 is within ±1,000,000,000
 abbrev pub InRange : Operation Calendar → ℕ → Type 0
-InRange o P = (t i : ℤ) → pos 0 ≤ℤ t → t <ℤ pos P → Labels o t i → (negℤ limit ≤ℤ i) × (i ≤ℤ limit)
+InRange o P = (t i : ℤ) → pos 0 ≤ℤ t → t <ℤ pos P → Labels o t i → (negℤ labelLimit ≤ℤ i) × (i ≤ℤ labelLimit)
 
 -- the reply to an operation: "7, 8 for the span, 9, 10, 8 for the working period, 12, 11", or what it means
 pub data Judged (o : Operation Meant) (room : ℕ) : Reply Meant → Type 0 where

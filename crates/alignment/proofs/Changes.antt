@@ -18,7 +18,8 @@ use Rattle.integers.proofs.Floor.{floor-lt}
 use Rattle.calendar.specs.Meaning.{Row, meant, raise}
 use Rattle.calendar.specs.Operation.Alignment.{partition}
 use Rattle.calendar.specs.Lists.{sameLabel}
-use Rattle.calendar.specs.Checks.{alignedAs, labelsOf}
+use Rattle.calendar.specs.Checks.{alignedAs}
+use Rattle.calendar.specs.Sound.{labelsOf}
 use Rattle.calendar.specs.Size.{turn, spanOf}
 use Rattle.granules.specs.Valid.{Valid}
 use Rattle.granules.proofs.Tests.{isSome-iff, sameLabel-iff, false-iff}

@@ -13,6 +13,7 @@ use mir.Syntax.{w64}
 use mir.Val.{SFits}
 use Rattle.integers.specs.Parts.{up}
 use Rattle.integers.proofs.Linear.{ints, _∴_}
+use Rattle.calendar.specs.Limits.{poolLimit}
 use Rattle.calendar.specs.Meaning.{Row}
 use Rattle.calendar.specs.Operation.Alignment.{subcalendar, compatible}
 use Rattle.calendar.specs.Lists.{equal}
@@ -55,8 +56,8 @@ limited period distance cells s =
     }
 
 -- no product of such numbers wraps
-product : (x y : ℤ) → pos 1 ≤ℤ x → x ≤ℤ pos 1048576 → pos 1 ≤ℤ y → y ≤ℤ pos 1048576 → SFits w64 (x *ℤ y)
-product (pos x) (pos y) h k l m = let b = mul-le-mul {n₁ = x} {m₁ = y} {n₂ = 1048576} {m₂ = 1048576} (simp ints at k ∴ omega arith) (simp ints at m ∴ omega arith) in simp ints (omega arith)
+product : (x y : ℤ) → pos 1 ≤ℤ x → x ≤ℤ pos poolLimit → pos 1 ≤ℤ y → y ≤ℤ pos poolLimit → SFits w64 (x *ℤ y)
+product (pos x) (pos y) h k l m = let b = mul-le-mul {n₁ = x} {m₁ = y} {n₂ = poolLimit} {m₂ = poolLimit} (simp ints at k ∴ omega arith) (simp ints at m ∴ omega arith) in simp ints (omega arith)
 product (pos x) (negsuc y) h k l m = absurd (l .le)
 product (negsuc x) y h k l m = absurd (h .le)
 

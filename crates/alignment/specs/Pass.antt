@@ -3,6 +3,7 @@ use mathlib.Core.Path.{_≡_}
 use mathlib.Core.Option.{some}
 use lib.IntN.{ℤ, pos}
 use lib.Signed.{_≤ℤ_, _<ℤ_}
+use Rattle.calendar.specs.Limits.{poolLimit}
 use Rattle.calendar.specs.Meaning.{Row, meant}
 use Rattle.calendar.specs.Operation.{Alignment}
 use Rattle.calendar.specs.Operation.Alignment.{free, partition, subcalendar, compatible}
@@ -11,7 +12,7 @@ use Rattle.calendar.specs.Size.{turn, spanOf, rise}
 -- span is that of a and b, and no longer than a period may be
 pub record Spanned (a b : Row) (span : ℤ) : Type 0 where
   pub is-span : span ≡ pos (spanOf (turn a) (turn b))
-  pub at-most : span ≤ℤ pos 1048576
+  pub at-most : span ≤ℤ pos poolLimit
 
 -- over it a's labels rise as far as b's, where the alignment asks that
 abbrev pub RiseAlike : Alignment → Row → Row → Type 0
@@ -34,4 +35,4 @@ Whole r = (t : ℤ) → (j : ℤ) × (meant r t ≡ some j)
 pub record Limited (period distance : ℤ) : Type 0 where
   pub low : pos 1 ≤ℤ distance
   pub middle : distance ≤ℤ period
-  pub high : period ≤ℤ pos 1048576
+  pub high : period ≤ℤ pos poolLimit

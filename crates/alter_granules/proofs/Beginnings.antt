@@ -16,7 +16,6 @@ use Rattle.calendar.specs.Lists.{first}
 use Rattle.calendar.specs.Granules.{meeting}
 use Rattle.granules.proofs.Tests.{some-inj}
 use Rattle.cursors.specs.Cursor.{cursorAt}
-use Rattle.containment.specs.Places.{instant}
 use Rattle.containment.proofs.Places.{instant-is}
 use Rattle.algebra.proofs.Fine.{Partitioned, low, low-spans}
 use Rattle.strides.specs.declared.Change.{Change}

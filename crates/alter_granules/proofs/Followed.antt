@@ -16,7 +16,7 @@ use Rattle.integers.proofs.Order.{≤ℤ-antisym, le-or-lt}
 use Rattle.calendar.specs.Meaning.{Row, meant, empty}
 use Rattle.calendar.specs.Lists.{onLabel}
 use Rattle.calendar.specs.Compute.{altered, result}
-use Rattle.calendar.specs.Checks.{poolLimit}
+use Rattle.calendar.specs.Limits.{poolLimit}
 use Rattle.granules.proofs.Rows.{label-is}
 use Rattle.cursors.specs.declared.Cursor.{Cursor}
 use Rattle.cursors.specs.Cursor.{cursorAt}

@@ -13,7 +13,7 @@ use Rattle.integers.proofs.Linear.{ints, _∴_}
 use Rattle.integers.proofs.Order.{le-or-lt, pos-up}
 use Rattle.calendar.specs.Meaning.{Row}
 use Rattle.calendar.specs.Lists.{any, from}
-use Rattle.calendar.specs.Checks.{poolLimit}
+use Rattle.calendar.specs.Limits.{poolLimit}
 use Rattle.calendar.specs.Questions.{given}
 use Rattle.granules.proofs.Tests.{true≢false, false-iff}
 use Rattle.granules.proofs.Lists.{any-iff, mem-from}
@@ -51,7 +51,7 @@ module _ (by : Alteration) (a b : Row) (known : Partitioned a b) (g : ℕ) (coun
   }
 
   module _ (c : Begin) (n : ℤ) (w : Passed by a b g count start c n) where
-    pub passed-place : Within (2 ^ 51) (at b start) → count ≤ℤ pos poolLimit → Within (2 ^ 52) (at b c)
+    pub passed-place : Within (2 ^ 53) (at b start) → count ≤ℤ pos poolLimit → Within (2 ^ 54) (at b c)
     passed-place near few = near ∴ few ∴ w .after ∴ w .before ∴ w .high ∴ simp ints (omega arith)
 
     -- no granule was short
@@ -116,13 +116,13 @@ module _ (a-period a-distance : ℤ) (a-cells : List ℤ) (b-period b-distance :
 
   pub passed-small : Sound a-period a-distance a-cells → Sound b-period b-distance b-cells
       → (by : Alteration) (g : ℕ) (count : ℤ) (start c next : Begin) (n : ℤ) → Passed by a-row b-row g count start c n → Next a-row b-row c next
-      → Within (2 ^ 52) (at b-row c) → Small c next
+      → Within (2 ^ 54) (at b-row c) → Small c next
   passed-small sa sb by g count start c next n w to here =
       let p = numbers b-period b-distance b-cells sb in
-      let there : Within (2 ^ 53) (at b-row next) = here ∴ to .behind ∴ to .near ∴ p .high ∴ simp ints (omega arith) in
-      let x = label-bound b-period b-distance b-cells sb (2 ^ 52) (at b-row c) (c .i) (here .0) (here .1) (w .begins .b-label) in
-      let y = label-bound a-period a-distance a-cells sa (2 ^ 52) (at b-row c) (c .p) (here .0) (here .1) (w .begins .a-label) in
-      let z = label-bound a-period a-distance a-cells sa (2 ^ 53) (at b-row next) (next .p) (there .0) (there .1) (to .begins .a-label) in
+      let there : Within (2 ^ 55) (at b-row next) = here ∴ to .behind ∴ to .near ∴ p .high ∴ simp ints (omega arith) in
+      let x = label-bound b-period b-distance b-cells sb (2 ^ 54) (at b-row c) (c .i) (here .0) (here .1) (w .begins .b-label) in
+      let y = label-bound a-period a-distance a-cells sa (2 ^ 54) (at b-row c) (c .p) (here .0) (here .1) (w .begins .a-label) in
+      let z = label-bound a-period a-distance a-cells sa (2 ^ 55) (at b-row next) (next .p) (there .0) (there .1) (to .begins .a-label) in
       record {
         label = x ∴ simp ints (omega arith);
         size = y ∴ z ∴ simp ints (omega arith);

@@ -13,6 +13,7 @@ use Rattle.integers.specs.Gcd.{gcd, lcm}
 use Rattle.integers.proofs.Linear.{ints, _∴_}
 use Rattle.integers.proofs.Order.{le-or-lt, mul-mono}
 use Rattle.integers.proofs.Divisors.{lcm-dvd}
+use Rattle.calendar.specs.Limits.{poolLimit}
 use Rattle.calendar.specs.Meaning.{Row, meant}
 use Rattle.calendar.specs.Size.{Turn, turn, spanOf, rise, coarse, fine}
 use Rattle.granules.proofs.Calendars.{label-moved}
@@ -47,14 +48,14 @@ up-at-most : (z : ℤ) (n : ℕ) → z ≤ℤ pos n → up z ≤ n
 up-at-most (pos m) n h = omega (arith, simp ints at h)
 up-at-most (negsuc m) n h = omega arith
 
-fine-sum : (m c : ℕ) (z d : ℤ) → d ≡ pos m +ℤ z *ℤ pos c → m ≤ 1048576000000 → c ≤ 1048576 → (pos c *ℤ z) ≤ℤ (pos c *ℤ pos 1000000) → d ≤ℤ pos 2097152000000
+fine-sum : (m c : ℕ) (z d : ℤ) → d ≡ pos m +ℤ z *ℤ pos c → m ≤ 4194304000000 → c ≤ poolLimit → (pos c *ℤ z) ≤ℤ (pos c *ℤ pos 1000000) → d ≤ℤ pos 8388608000000
 fine-sum m c z d e h k l = e ∴ h ∴ k ∴ l ∴ simp ints (omega arith)
 
-reached : (S A m n : ℕ) (t i u k : ℤ) → pos 0 ≤ℤ t → t ≤ℤ pos 1048576 → i ≤ℤ k → k ≤ℤ (i +ℤ pos 4 *ℤ pos n)
-    → 1 ≤ A → A * m ≡ n → S ≤ 1048576 → m ≤ 1000000
+reached : (S A m n : ℕ) (t i u k : ℤ) → pos 0 ≤ℤ t → t ≤ℤ pos poolLimit → i ≤ℤ k → k ≤ℤ (i +ℤ pos 4 *ℤ pos n)
+    → 1 ≤ A → A * m ≡ n → S ≤ poolLimit → m ≤ 1000000
     → ((i +ℤ pos A *ℤ negsuc 0) <ℤ k → (t +ℤ pos S *ℤ negsuc 0) <ℤ u)
     → (k <ℤ (i +ℤ pos A *ℤ pos (4 * m + 1)) → u <ℤ (t +ℤ pos S *ℤ pos (4 * m + 1)))
-    → (negℤ (pos 1048576) ≤ℤ u) × (u ≤ℤ pos 8388608000000)
+    → (negℤ (pos poolLimit) ≤ℤ u) × (u ≤ℤ pos 33554432000000)
 reached S A m n t i u k lo hi h g above whole s r low high =
     let few : 4 * m + 1 ≤ 4000001 = omega arith in
     let l = low (h ∴ above ∴ simp ints (omega arith)) in
@@ -68,20 +69,20 @@ module _ (by : Alteration) (a b : Row) (given : Altering by a b) (dense-a : a .d
   coarse-at-most : coarse (turn a) (turn b) (up (by .x)) ≤ riseCoarse a b * up (by .x)
   coarse-at-most = rw (coarse-is a b (up (by .x))) (lcm-at-most (riseCoarse a b) (up (by .x)))
 
-  A-high : riseCoarse a b ≤ 1048576
+  A-high : riseCoarse a b ≤ poolLimit
   A-high = omega (arith, rise-at-most (turn b) (spanOf (turn a) (turn b)) dense-b, given .1 .at-most)
 
-  B-high : riseFine a b ≤ 1048576
+  B-high : riseFine a b ≤ poolLimit
   B-high = omega (arith, rise-at-most (turn a) (spanOf (turn a) (turn b)) dense-a, given .1 .at-most)
 
   -- n/A
   turns-high : coarse (turn a) (turn b) (up (by .x)) / riseCoarse a b ≤ 1000000
   turns-high = omega (arith, div-le-of-le-mul (riseCoarse a b) coarse-at-most, x-high)
 
-  pub coarse-high : turnCoarse by a b ≤ℤ pos 1048576000000
+  pub coarse-high : turnCoarse by a b ≤ℤ pos 4194304000000
   coarse-high = coarse-at-most ∴ mul-le-mul A-high x-high ∴ simp ints (omega arith)
 
-  pub fine-high : turnFine by a b ≤ℤ pos 2097152000000
+  pub fine-high : turnFine by a b ≤ℤ pos 8388608000000
   fine-high =
       let n = coarse (turn a) (turn b) (up (by .x)) in
       let c : n / up (by .x) ≤ riseCoarse a b = div-le-of-le-mul (up (by .x)) (omega (arith, coarse-at-most)) in
@@ -115,8 +116,8 @@ module _ (by : Alteration) (a b : Row) (given : Altering by a b) (dense-a : a .d
       go (inr l) = l
 
   -- at most m·n granules on from t, where m is at most 4
-  pub instant-reach : (t i u k : ℤ) → pos 0 ≤ℤ t → t ≤ℤ pos 1048576 → meant b t ≡ some i → meant b u ≡ some k
-      → i ≤ℤ k → k ≤ℤ (i +ℤ pos 4 *ℤ turnCoarse by a b) → (negℤ (pos 1048576) ≤ℤ u) × (u ≤ℤ pos 8388608000000)
+  pub instant-reach : (t i u k : ℤ) → pos 0 ≤ℤ t → t ≤ℤ pos poolLimit → meant b t ≡ some i → meant b u ≡ some k
+      → i ≤ℤ k → k ≤ℤ (i +ℤ pos 4 *ℤ turnCoarse by a b) → (negℤ (pos poolLimit) ≤ℤ u) × (u ≤ℤ pos 33554432000000)
   instant-reach t i u k lo hi e f h g =
       let S = spanOf (turn a) (turn b) in
       let A = riseCoarse a b in
@@ -131,7 +132,7 @@ module _ (by : Alteration) (a b : Row) (given : Altering by a b) (dense-a : a .d
 pub record Turns (repeat : Repeat) : Type 0 where
   pub coarse-low : pos 1 ≤ℤ repeat .coarse
   pub middle : repeat .coarse ≤ℤ repeat .fine
-  pub fine-high : repeat .fine ≤ℤ pos (2 ^ 41)
+  pub fine-high : repeat .fine ≤ℤ pos (2 ^ 43)
 
 pub turns-near : (by : Alteration) (repeat : Repeat) (a b : Row) → Alterable by repeat a b → a .distance ≤ a .period → b .distance ≤ b .period → Turns repeat
 turns-near by repeat a b g dense-a dense-b = record {

@@ -69,11 +69,11 @@ changed-within x y z i above small few k h =
 pub record Turned (n D d k : ℤ) : Type 0 where
   pub low : (k *ℤ D) ≤ℤ d
   pub high : d <ℤ (k *ℤ D +ℤ D)
-  pub turns-bound : Within (2 ^ 54 + 2 ^ 42) k
-  pub coarse-bound : Within (2 ^ 54 + 2 ^ 42) (k *ℤ n)
-  pub fine-bound : Within (2 ^ 54 + 2 ^ 42) (k *ℤ D)
+  pub turns-bound : Within (2 ^ 54 + 2 ^ 44) k
+  pub coarse-bound : Within (2 ^ 54 + 2 ^ 44) (k *ℤ n)
+  pub fine-bound : Within (2 ^ 54 + 2 ^ 44) (k *ℤ D)
 
-turned-of : (n D : ℕ) (d : ℤ) → 1 ≤ n → n ≤ D → D ≤ 2 ^ 41 → Within (2 ^ 54) d → Turned (pos n) (pos D) d (floorDiv d D)
+turned-of : (n D : ℕ) (d : ℤ) → 1 ≤ n → n ≤ D → D ≤ 2 ^ 43 → Within (2 ^ 54) d → Turned (pos n) (pos D) d (floorDiv d D)
 turned-of n D d low middle high h =
     let above : 1 ≤ D = omega arith in
     let e = floor-eq D above d in
@@ -89,7 +89,7 @@ turned-of n D d low middle high h =
       fine-bound = f ∴ high ∴ simp ints (omega arith);
     }
 
-pub turned : (n D d : ℤ) → pos 1 ≤ℤ n → n ≤ℤ D → D ≤ℤ pos (2 ^ 41) → Within (2 ^ 54) d → Turned n D d (floorDiv d (up D))
+pub turned : (n D d : ℤ) → pos 1 ≤ℤ n → n ≤ℤ D → D ≤ℤ pos (2 ^ 43) → Within (2 ^ 54) d → Turned n D d (floorDiv d (up D))
 turned (pos n) (pos D) d low middle high h = turned-of n D d (low ∴ simp ints (omega arith)) (middle ∴ simp ints (omega arith)) (high ∴ simp ints (omega arith)) h
 turned (negsuc n) D d low middle high h = absurd (low .le)
 turned (pos n) (negsuc D) d low middle high h = absurd (middle .le)

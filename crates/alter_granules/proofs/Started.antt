@@ -12,6 +12,7 @@ use mir.Val.{SFits}
 use Rattle.integers.specs.Parts.{up}
 use Rattle.integers.specs.Floor.{floorDiv, floorMod}
 use Rattle.integers.proofs.Linear.{ints, _∴_}
+use Rattle.calendar.specs.Limits.{poolLimit}
 use Rattle.calendar.specs.Meaning.{Row, meant}
 use Rattle.calendar.specs.Algebra.{changes}
 use Rattle.calendar.specs.Questions.{given}
@@ -177,12 +178,12 @@ module _ (by : Alteration) (repeat : Repeat) (ap ad bp bd : ℤ) (ac bc : List �
       let m = numbers ap ad ac sa in
       let n = numbers bp bd bc sb in
       let D = fine-high by a b (repeat, g) (m .middle) (n .middle) in
-      let t-low : negℤ (pos 1048576) ≤ℤ first .t = o .low ∴ simp ints (omega arith) in
-      let t-high : first .t ≤ℤ pos 1048576 = o .high ∴ m .high ∴ simp ints (omega arith) in
-      let u-low : negℤ (pos 1048576) ≤ℤ at b from = near .0 ∴ o .low ∴ n .period-is ∴ n .high ∴ simp ints (omega arith) in
-      let u-high : at b from ≤ℤ pos 1048576 = near .1 ∴ t-high ∴ simp ints (omega arith) in
-      let v-low : negℤ (pos 2097152) ≤ℤ at b begin = step .0 ∴ u-low ∴ simp ints (omega arith) in
-      let v-high : at b begin ≤ℤ pos 2097152 = step .1 ∴ u-high ∴ n .period-is ∴ n .high ∴ simp ints (omega arith) in
+      let t-low : negℤ (pos poolLimit) ≤ℤ first .t = o .low ∴ simp ints (omega arith) in
+      let t-high : first .t ≤ℤ pos poolLimit = o .high ∴ m .high ∴ simp ints (omega arith) in
+      let u-low : negℤ (pos poolLimit) ≤ℤ at b from = near .0 ∴ o .low ∴ n .period-is ∴ n .high ∴ simp ints (omega arith) in
+      let u-high : at b from ≤ℤ pos poolLimit = near .1 ∴ t-high ∴ simp ints (omega arith) in
+      let v-low : negℤ (pos 8388608) ≤ℤ at b begin = step .0 ∴ u-low ∴ simp ints (omega arith) in
+      let v-high : at b begin ≤ℤ pos 8388608 = step .1 ∴ u-high ∴ n .period-is ∴ n .high ∴ simp ints (omega arith) in
       record {
         given = g;
         opens = o;
@@ -191,9 +192,9 @@ module _ (by : Alteration) (repeat : Repeat) (ap ad bp bd : ℤ) (ac bc : List �
         begin-begins = l;
         begin-on = on;
         early = m .high;
-        j-near = label-bound ap ad ac sa 1048576 (first .t) (first .j) t-low t-high (o .label) ∴ simp ints (omega arith);
-        i-near = label-bound bp bd bc sb 1048576 (first .t) (from .i) t-low t-high of ∴ simp ints (omega arith);
-        p-near = label-bound ap ad ac sa 1048576 (at b from) (from .p) u-low u-high (k .a-label) ∴ simp ints (omega arith);
-        next-near = label-bound ap ad ac sa 2097152 (at b begin) (begin .p) v-low v-high (l .a-label) ∴ simp ints (omega arith);
+        j-near = label-bound ap ad ac sa poolLimit (first .t) (first .j) t-low t-high (o .label) ∴ simp ints (omega arith);
+        i-near = label-bound bp bd bc sb poolLimit (first .t) (from .i) t-low t-high of ∴ simp ints (omega arith);
+        p-near = label-bound ap ad ac sa poolLimit (at b from) (from .p) u-low u-high (k .a-label) ∴ simp ints (omega arith);
+        next-near = label-bound ap ad ac sa 8388608 (at b begin) (begin .p) v-low v-high (l .a-label) ∴ simp ints (omega arith);
         turn-near = g .fine ∴ D ∴ simp ints (omega arith);
       }

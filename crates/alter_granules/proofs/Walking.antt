@@ -16,6 +16,7 @@ use Rattle.integers.specs.Floor.{floorMod}
 use Rattle.integers.proofs.Linear.{ints, _∴_}
 use Rattle.integers.proofs.Order.{pos-up}
 use Rattle.integers.proofs.Floor.{floor-lt}
+use Rattle.calendar.specs.Limits.{poolLimit}
 use Rattle.calendar.specs.Meaning.{Row, meant}
 use Rattle.calendar.specs.Questions.{given}
 use Rattle.cursors.specs.Found.{Sound, Within}
@@ -84,8 +85,8 @@ module _ (by : Alteration) (a b : Row) (g : Altering by a b) where
 
 -- the cursors and the label in a of a beginning
 pub record Placed (a b : Row) (c : Begin) : Type 0 where
-  pub place : Within (2 ^ 43) (at b c)
-  pub label : Within (2 ^ 44) (c .p)
+  pub place : Within (2 ^ 45) (at b c)
+  pub label : Within (2 ^ 46) (c .p)
 
 pub record Room (by : Alteration) (a b : Row) (s : Walk) : Type 0 where
   pub begin : Placed a b (s .begin)
@@ -108,12 +109,12 @@ module _ (by : Alteration) (ap ad bp bd : ℤ) (ac bc : List ℤ) (sa : Sound ap
   dense-b = numbers bp bd bc sb .middle
 
   -- a beginning at most 4·n granules on from that of t
-  pub placed : (t i : ℤ) (c : Begin) → pos 0 ≤ℤ t → t ≤ℤ pos 1048576 → meant b t ≡ some i → Begins a b c → i ≤ℤ c .i → c .i ≤ℤ (i +ℤ pos 4 *ℤ turnCoarse by a b)
+  pub placed : (t i : ℤ) (c : Begin) → pos 0 ≤ℤ t → t ≤ℤ pos poolLimit → meant b t ≡ some i → Begins a b c → i ≤ℤ c .i → c .i ≤ℤ (i +ℤ pos 4 *ℤ turnCoarse by a b)
       → Placed a b c
   placed t i c lo hi e k h l =
       let r = instant-reach by a b g dense-a dense-b t i (at b c) (c .i) lo hi e (k .b-label) h l in
-      let near : Within (2 ^ 43) (at b c) = r ∴ simp ints (omega arith) in
-      record { place = near; label = label-bound ap ad ac sa (2 ^ 43) (at b c) (c .p) (near .0) (near .1) (k .a-label) ∴ simp ints (omega arith) }
+      let near : Within (2 ^ 45) (at b c) = r ∴ simp ints (omega arith) in
+      record { place = near; label = label-bound ap ad ac sa (2 ^ 45) (at b c) (c .p) (near .0) (near .1) (k .a-label) ∴ simp ints (omega arith) }
 
   pub coarse-near : (s : Walk) (w : Walks by a b s) → s .begin .i ≤ℤ (w .origin .coarse +ℤ pos 2 *ℤ turnCoarse by a b)
   coarse-near s w =
@@ -163,7 +164,7 @@ pub record Sums (s : Walk) (p m : ℤ) : Type 0 where
   pub next-fits : SFits w64 (s .next)
   pub next-on-fits : SFits w64 (s .next +ℤ (p -ℤ s .begin .p +ℤ m))
 
-sums-of : (s : Walk) (p m : ℤ) → Within (2 ^ 44) p → Within (2 ^ 44) (s .begin .p) → Within 1000000 m → Within (2 ^ 56) (s .label) → Within (2 ^ 56) (s .next) → Sums s p m
+sums-of : (s : Walk) (p m : ℤ) → Within (2 ^ 46) p → Within (2 ^ 46) (s .begin .p) → Within 1000000 m → Within (2 ^ 56) (s .label) → Within (2 ^ 56) (s .next) → Sums s p m
 sums-of s p m h k l i j = record {
   from-fits = k ∴ simp ints (omega arith);
   to-fits = h ∴ simp ints (omega arith);

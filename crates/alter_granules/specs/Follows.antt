@@ -11,7 +11,7 @@ use Rattle.calendar.specs.Meaning.{Row, meant}
 use Rattle.calendar.specs.Size as Size
 use Rattle.calendar.specs.Size.{turn}
 use Rattle.calendar.specs.Compute.{firstFine}
-use Rattle.calendar.specs.Checks.{poolLimit}
+use Rattle.calendar.specs.Limits.{poolLimit}
 use Rattle.cursors.specs.Found.{Within}
 use Rattle.cursors.specs.Cursor.{cursorAt}
 use Rattle.kinds.specs.declared.Alteration.{Alteration}
@@ -87,7 +87,7 @@ pub record Opened (by : Alteration) (repeat : Repeat) (a b : Row) (first : Label
   pub i-near : Within (2 ^ 31) (from .i)
   pub p-near : Within (2 ^ 31) (from .p)
   pub next-near : Within (2 ^ 31) (begin .p)
-  pub turn-near : repeat .fine ≤ℤ pos (2 ^ 41)
+  pub turn-near : repeat .fine ≤ℤ pos (2 ^ 43)
 
 -- it starts at the altered granule of that instant, and ends D fine granules on
 pub record Starts (by : Alteration) (a b : Row) (s : Walk) : Type 0 where

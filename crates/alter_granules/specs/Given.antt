@@ -2,7 +2,7 @@
 use mathlib.Core.Path.{_≡_}
 use mathlib.Core.List.{List}
 use Prim.Native.Nat.{ℕ, _≤_, _<_}
-use lib.IntN.{ℤ, pos, negℤ}
+use lib.IntN.{ℤ, pos}
 use lib.Signed.{_≤ℤ_}
 use lib.ListN.{length, getD}
 use Rattle.integers.specs.Parts.{up}
@@ -14,7 +14,7 @@ use Rattle.calendar.specs.Algebra.{Partition}
 use Rattle.calendar.specs.Size as Size
 use Rattle.calendar.specs.Size.{turn, spanOf}
 use Rattle.calendar.specs.Compute.{result}
-use Rattle.calendar.specs.Checks.{poolLimit}
+use Rattle.calendar.specs.Limits.{poolLimit}
 use Rattle.algebra.specs.Ready.{Ready}
 use Rattle.kinds.specs.declared.Alteration.{Alteration}
 use Rattle.kinds.specs.Limits.{Limits}

@@ -9,7 +9,7 @@ use Rattle.calendar.specs.Meaning.{Row, meant, Full}
 use Rattle.calendar.specs.Algebra.{Partition}
 use Rattle.calendar.specs.Lists.{first, last}
 use Rattle.calendar.specs.Granules.{meeting}
-use Rattle.calendar.specs.Checks.{poolLimit}
+use Rattle.calendar.specs.Limits.{poolLimit}
 use Rattle.cursors.specs.Found.{Within}
 use Rattle.kinds.specs.declared.Alteration.{Alteration}
 use Rattle.alter_granules.specs.declared.coarse.Begin.{Begin}
@@ -31,7 +31,7 @@ pub record Passable (by : Alteration) (a b : Row) (c : Begin) (common count : �
   pub full : Full (meant a) × Full (meant b)
   pub partition : Partition (meant a) (meant b)
   pub begins : Begins a b c
-  pub near : Within (2 ^ 51) (at b c)
+  pub near : Within (2 ^ 53) (at b c)
   pub divides : pos 0 <ℤ common
   pub low : pos 0 ≤ℤ count
   pub high : count ≤ℤ pos poolLimit

@@ -11,9 +11,9 @@ ghost use Rattle.integers.specs.Floor.{floorMod};
 ghost use Rattle.calendar.specs.Questions.{given};
 ghost use Rattle.cursors.specs.Found.{Sound};
 ghost use Rattle.alter_granules.specs.Follows.{Altering, begins, Holds, Walks};
-use kinds::Alteration;
 use super::coarse;
 use super::coarse::Begin;
+use kinds::Alteration;
 
 // Where the walk is.
 pub struct Walk {

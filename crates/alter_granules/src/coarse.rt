@@ -34,7 +34,7 @@ pub fn begin_at(
     requires { ⌜ Sound «b_period» «b_distance» (now «b_cells») ⌝ }
     requires { ⌜ Full (meant (given «a_period» «a_distance» (now «a_cells»))) × Full (meant (given «b_period» «b_distance» (now «b_cells»))) ⌝ }
     requires { ⌜ Partition (meant (given «a_period» «a_distance» (now «a_cells»))) (meant (given «b_period» «b_distance» (now «b_cells»))) ⌝ }
-    requires { ⌜ Within (2 ^ 50) t ⌝ }
+    requires { ⌜ Within (2 ^ 52) t ⌝ }
     requires { ⌜ ((i : ℤ) × (meant (given «b_period» «b_distance» (now «b_cells»)) t ≡ some i)) ⌝ }
     ensures begins { λ r. ⌜ Begins (given «a_period» «a_distance» (now («a_cells» .entry))) (given «b_period» «b_distance» (now («b_cells» .entry))) r ⌝ }
     ensures of { λ r. ⌜ meant (given «b_period» «b_distance» (now («b_cells» .entry))) t ≡ some (r .i) ⌝ }

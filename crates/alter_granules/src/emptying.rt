@@ -11,15 +11,15 @@ ghost use Rattle.integers.specs.Parts.{up};
 ghost use Rattle.integers.specs.Gcd as G;
 ghost use Rattle.calendar.specs.Meaning.{meant, Full};
 ghost use Rattle.calendar.specs.Lists.{any, from};
-ghost use Rattle.calendar.specs.Checks.{poolLimit};
+ghost use Rattle.calendar.specs.Limits.{poolLimit};
 ghost use Rattle.calendar.specs.Questions.{given};
 ghost use Rattle.cursors.specs.Found.{Sound, Within};
 ghost use Rattle.kinds.specs.Limits.{Limits};
 ghost use Rattle.alter_granules.specs.Short.{shortBy, short, Passable};
-use kinds::Alteration;
 use super::coarse;
 use super::coarse::Begin;
 use cursors::Found;
+use kinds::Alteration;
 
 // How far the labels rise over the span, which is whole periods.
 pub fn rise_over(span: i64, period: i64, distance: i64) -> i64
@@ -45,7 +45,7 @@ pub fn instant_zero(cells: &[i32], period: i64, distance: i64) -> i64
     requires { ⌜ Sound period distance (now cells) ⌝ }
     requires { ⌜ Full (meant (given period distance (now cells))) ⌝ }
     ensures label { λ r. ⌜ meant (given period distance (now (cells .entry))) r ≡ some (pos 0) ⌝ }
-    ensures near { λ r. ⌜ Within (2 ^ 50) r ⌝ }
+    ensures near { λ r. ⌜ Within (2 ^ 52) r ⌝ }
 {
     let found = row_check::instant_of(cells, period, distance, 0);
     let Found::At(t) = found else {

@@ -1,7 +1,6 @@
 // Alter, document 01's kind 3: a is the fine operand and b the coarse one.
 
 ghost use mathlib.Core.Path.{_≡_};
-ghost use lib.IntN.{pos};
 ghost use Rattle.integers.specs.Parts.{up};
 ghost use Rattle.calendar.specs.Operation.Operation.{binary};
 ghost use Rattle.calendar.specs.Operation.Binary.{alter};
@@ -10,9 +9,9 @@ ghost use Rattle.calendar.specs.Questions.{given};
 ghost use Rattle.cursors.specs.Found.{Sound};
 ghost use Rattle.alter_granules.specs.Given.{Emptiable, Alterable};
 ghost use Rattle.alter_granules.specs.Follows.{Follows};
-use kinds::Alteration;
 use ahead::Walk;
 use behind::Place;
+use kinds::Alteration;
 
 pub mod ahead;
 pub mod behind;

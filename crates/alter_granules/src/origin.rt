@@ -11,11 +11,11 @@ ghost use Rattle.cursors.specs.Found.{Sound, Within};
 ghost use Rattle.kinds.specs.Limits.{Limits};
 ghost use Rattle.alter_granules.specs.Given.{Alterable};
 ghost use Rattle.alter_granules.specs.Follows.{Opens, Opened, Starts};
-use kinds::Alteration;
 use super::Repeat;
 use super::ahead::Walk;
 use super::coarse;
 use super::coarse::Begin;
+use kinds::Alteration;
 use row_check::scan;
 
 // A labelled instant, with its label.

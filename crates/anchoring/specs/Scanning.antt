@@ -4,7 +4,7 @@ use lib.IntN.{ℤ, pos, _-ℤ_}
 use lib.Signed.{_≤ℤ_}
 use Rattle.calendar.specs.Meaning.{Row}
 use Rattle.calendar.specs.Compute.{anchored}
-use Rattle.calendar.specs.Checks.{poolLimit}
+use Rattle.calendar.specs.Limits.{poolLimit}
 use Rattle.cursors.specs.Cursor.{cursorAt}
 use Rattle.anchoring.specs.declared.Anchoring.{Anchoring}
 

@@ -4,7 +4,7 @@ ghost use mathlib.Core.Path.{_≡_};
 ghost use Prim.Native.Nat.{_+_};
 ghost use lib.IntN.{pos, _+ℤ_};
 ghost use lib.Signed.{_<ℤ_};
-ghost use Rattle.calendar.specs.Checks.{poolLimit};
+ghost use Rattle.calendar.specs.Limits.{poolLimit};
 ghost use Rattle.calendar.specs.Compute.{result};
 ghost use Rattle.calendar.specs.Questions.{given};
 ghost use Rattle.cursors.specs.Found.{found};
@@ -14,6 +14,8 @@ ghost use Rattle.kinds.specs.Stands.{rowIn};
 ghost use Rattle.fill_shared.specs.Given.{Given};
 ghost use Rattle.fill_shared.specs.Placed.{Placed, over, Fills};
 ghost use Rattle.anchoring.specs.Scanning.{Anchors};
+use cursors::Cursor;
+use cursors::Found;
 use fill_shared::Filled;
 use fill_shared::any;
 use fill_shared::end_of;
@@ -21,8 +23,6 @@ use fill_shared::last_before;
 use fill_shared::outcome;
 use fill_shared::store;
 use kinds::Operand;
-use cursors::Cursor;
-use cursors::Found;
 
 // What the loop carries: the cursors of the instant, and the last label of b before it.
 pub struct Anchoring {

@@ -1,16 +1,17 @@
 -- A rule that is neither 0 nor 1 is refused with 18, after 13 and 14 and before 15.
 -- Assumes nothing.
 use mathlib.Core.Path.{_≡_, refl}
-use mathlib.Core.Bool.{Bool, _&&_}
-use Prim.Native.Nat.{ℕ, zero, suc}
+use mathlib.Core.Bool.{_&&_}
+use Prim.Native.Nat.{zero, suc}
 use lib.IntN.{ℤ, pos, negsuc}
 use lib.Ieee.{Float}
 use Rattle.calendar.specs.Meaning.{Row}
-use Rattle.calendar.specs.Reply.{Reply, require}
+use Rattle.calendar.specs.Reply.{require}
 use Rattle.calendar.specs.Reply.Reply.{refused}
-use Rattle.calendar.specs.Checks.{inRange, between, sound}
+use Rattle.calendar.specs.Limits.{inRange, between, lateLimit}
+use Rattle.calendar.specs.Sound.{sound}
 use Rattle.floats.specs.Allowance.{amount}
-use Rattle.questions.specs.Answers.{mayBeLate, lateLimit}
+use Rattle.questions.specs.Answers.{mayBeLate}
 use Rattle.c_api.specs.Codes.{allowanceOf}
 
 pub another-rule : (r : Row) (z d rule : ℤ) (v : Float) → (rule ≡ pos 0 → ⊥) → (rule ≡ pos 1 → ⊥)

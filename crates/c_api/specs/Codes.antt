@@ -8,15 +8,14 @@ use lib.Ieee.{Float, fin}
 use Rattle.calendar.specs.Meaning.{Row}
 use Rattle.calendar.specs.Reply.{Reply}
 use Rattle.calendar.specs.Reply.Reply.{refused, answer}
-use Rattle.calendar.specs.Table.{Outcome}
-use Rattle.calendar.specs.Table.Outcome.{refusedAt, rows}
+use Rattle.calendar.specs.Outcome.{Outcome}
+use Rattle.calendar.specs.Outcome.Outcome.{refusedAt, rows}
 use Rattle.calendar.specs.Granules.{granules}
 use Rattle.calendar.specs.Questions.{labelledInstants}
 use Rattle.floats.specs.Figures.{Shown}
-use Rattle.floats.specs.declared.Figures.{Figures}
 use Rattle.floats.specs.declared.Allowance.{Allowance}
 use Rattle.floats.specs.declared.Allowance.the-variants.{Fixed, Share}
-use Rattle.calendar.specs.Checks.{sound}
+use Rattle.calendar.specs.Sound.{sound}
 use Rattle.conversion.specs.declared.Conversion.{Conversion}
 use Rattle.conversion.specs.declared.Conversion.the-variants.{Refused, Converted}
 

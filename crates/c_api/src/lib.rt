@@ -5,8 +5,9 @@
 ghost use mathlib.Core.Path.{_≡_};
 ghost use Prim.Native.Nat.{_/_};
 ghost use lib.ListN.{length};
+ghost use Rattle.calendar.specs.Limits.{headingLength};
 ghost use Rattle.calendar.specs.Refusals.{numberOf};
-ghost use Rattle.calendar.specs.Table.{outcome};
+ghost use Rattle.calendar.specs.Outcome.{outcome};
 ghost use Rattle.calendar.specs.Stored.{poolAfter, headingsAfter};
 ghost use Rattle.calendar.specs.Questions.{given};
 ghost use Rattle.calendar.specs.Questions as Q;
@@ -196,9 +197,9 @@ fn conversion_code(c: Conversion) -> i64
 // Converts a table, with three numbers a heading: 0, or 100 times the refusal's number plus its entry.
 #[no_mangle]
 pub extern "C" fn jogipahn_convert(table: &[i32], headings: &mut [u32], pool: &mut [i32]) -> i64
-    ensures code { λ r. ⌜ r ≡ conversionCode (outcome (now (table .entry)) (length (now (headings .entry)) / 3) (length (now (pool .entry)))) ⌝ }
-    ensures headings { λ r. ⌜ now (headings .exit) ≡ headingsAfter (length (now (headings .entry))) (outcome (now (table .entry)) (length (now (headings .entry)) / 3) (length (now (pool .entry)))) ⌝ }
-    ensures pool { λ r. ⌜ now (pool .exit) ≡ poolAfter (length (now (pool .entry))) (outcome (now (table .entry)) (length (now (headings .entry)) / 3) (length (now (pool .entry)))) ⌝ }
+    ensures code { λ r. ⌜ r ≡ conversionCode (outcome (now (table .entry)) (length (now (headings .entry)) / headingLength) (length (now (pool .entry)))) ⌝ }
+    ensures headings { λ r. ⌜ now (headings .exit) ≡ headingsAfter (length (now (headings .entry))) (outcome (now (table .entry)) (length (now (headings .entry)) / headingLength) (length (now (pool .entry)))) ⌝ }
+    ensures pool { λ r. ⌜ now (pool .exit) ≡ poolAfter (length (now (pool .entry))) (outcome (now (table .entry)) (length (now (headings .entry)) / headingLength) (length (now (pool .entry)))) ⌝ }
 {
     let converted = conversion::convert(table, &mut *headings, &mut *pool);
     conversion_code(converted)

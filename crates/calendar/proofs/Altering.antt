@@ -1,7 +1,6 @@
 -- Document 01's example of altering, from source document 000: x = 3, y = 2, z = 1, b's granule i being the fine granules 2i − 1
 -- and 2i.
 use mathlib.Core.Path.{_≡_, refl}
-use mathlib.Core.Option.{some}
 use mathlib.Core.List.{[], _∷_, map}
 use lib.IntN.{pos, negsuc}
 use Rattle.calendar.specs.Meaning.{Row, empty}
@@ -9,7 +8,7 @@ use Rattle.calendar.specs.Operation.{Operation}
 use Rattle.calendar.specs.Operation.Binary.{alter}
 use Rattle.calendar.specs.Operation.Operation.{binary}
 use Rattle.calendar.specs.Lists.{from, is, keep}
-use Rattle.calendar.specs.Size.{size}
+use Rattle.calendar.specs.Distance.{size}
 use Rattle.calendar.specs.Compute.{firstFine, lastFine, result}
 
 -- the figure's operands: each fine granule has one or two instants, and every fourth instant is in none

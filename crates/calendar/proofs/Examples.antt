@@ -1,6 +1,5 @@
 -- A small example of each kind that the slots worked by hand leave out, or of a corner of one, by computation.
 use mathlib.Core.Path.{_≡_, refl}
-use mathlib.Core.Option.{some}
 use mathlib.Core.List.{List, [], _∷_, _++_, map}
 use lib.IntN.{ℤ, pos, negsuc}
 use Rattle.calendar.specs.Meaning.{empty}

@@ -1,23 +1,23 @@
 -- Each refusal of a conversion by a small example, and the order among them, by computation.
 use mathlib.Core.Path.{_≡_, refl}
 use mathlib.Core.List.{List, [], _∷_, _++_, map}
-use Prim.Native.Nat.{ℕ}
+use Prim.Native.Nat.{ℕ, suc, _*_}
 use lib.IntN.{ℤ, pos, negsuc}
 use lib.ListN.{replicate}
-use Rattle.calendar.specs.Meaning.{empty}
-use Rattle.calendar.specs.Table.{Outcome, outcome}
-use Rattle.calendar.specs.Table.Outcome.{refusedAt}
+use Rattle.calendar.specs.Limits.{poolLimit, entryLimit}
+use Rattle.calendar.specs.Outcome.{outcome}
+use Rattle.calendar.specs.Outcome.Outcome.{refusedAt}
 use Rattle.calendar.specs.Worked.{Case, case, rowIn, rowOf, rowWith, entry, days, grouped, weeks, businessDays, renumberedDays, oddAndEven, labels, framed}
 use Rattle.calendar.specs.Worked.Shown.{refusal}
 
 -- ---- 1, 2 and 3, in this order
 
 pub begin-refused :
-    (outcome [] 0 2000000 ≡ refusedAt 1 0)
+    (outcome [] 0 (suc poolLimit) ≡ refusedAt 1 0)
     × (outcome (days ++ (pos 0 ∷ [])) 9 10 ≡ refusedAt 1 0)
-    × (outcome (replicate 198 (pos 0)) 64 100 ≡ refusedAt 1 0)
-    × (outcome weeks 1 2000000 ≡ refusedAt 2 0)
-    × (outcome weeks 2 1048577 ≡ refusedAt 3 0)
+    × (outcome (replicate (6 * suc entryLimit) (pos 0)) (suc entryLimit) 100 ≡ refusedAt 1 0)
+    × (outcome weeks 1 (suc poolLimit) ≡ refusedAt 2 0)
+    × (outcome weeks 2 (suc poolLimit) ≡ refusedAt 3 0)
 unfolding outcome
 begin-refused = (refl, refl, refl, refl, refl)
 

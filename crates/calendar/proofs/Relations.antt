@@ -1,12 +1,12 @@
 -- What the relations of the algebra rule out, by small counterexamples.
-use mathlib.Core.Path.{_≡_, refl, sym}
-use mathlib.Core.Option.{Option, none, some}
+use mathlib.Core.Path.{_≡_, refl}
+use mathlib.Core.Option.{none, some}
 use mathlib.Core.List.{[], _∷_}
 use native.Mathlib.Omega.{arith}
-use lib.IntN.{ℤ, pos, negsuc, _+ℤ_, _*ℤ_}
+use lib.IntN.{ℤ, pos, _+ℤ_}
 use lib.Signed.{leZ-yes}
 use Rattle.integers.proofs.Linear.{ints, _∴_}
-use Rattle.calendar.specs.Meaning.{Row, Calendar, meant, empty, Full}
+use Rattle.calendar.specs.Meaning.{Row, Calendar, meant, empty}
 use Rattle.calendar.specs.Operation.Unary.{group}
 use Rattle.calendar.specs.Operation.Operation.{unary}
 use Rattle.calendar.specs.Algebra.{Partition, Subcalendar, Compatible, FullOperands}

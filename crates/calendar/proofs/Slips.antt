@@ -1,10 +1,10 @@
 -- Document 01's "Easy slips we have paid for": each is ruled out by the definitions.
 use mathlib.Core.Path.{_≡_, refl}
 use mathlib.Core.Option.{Option, some}
-use mathlib.Core.Bool.{Bool, true, false, not}
+use mathlib.Core.Bool.{true, false}
 use mathlib.Core.List.{[], _∷_, map}
 use lib.IntN.{pos, negsuc}
-use Rattle.calendar.specs.Meaning.{Row, meant, empty}
+use Rattle.calendar.specs.Meaning.{Row, meant}
 use Rattle.calendar.specs.Operation.SetOperation.{union}
 use Rattle.calendar.specs.Operation.Binary.{by-labels, combine}
 use Rattle.calendar.specs.Operation.Operation.{binary}

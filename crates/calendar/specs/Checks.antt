@@ -1,20 +1,20 @@
--- The checks of an entry's operands and of its working row, and rule 13 for a row that is handed in, as tests that compute.
+-- The checks of an entry's operands and of its working row, as tests that compute.
 use mathlib.Core.Option.{Option, none, some}
 use mathlib.Core.Bool.{Bool, true, false, not, _&&_, _||_}
-use mathlib.Core.List.{List, [], _∷_, _++_}
 use Prim.Native.Nat.{ℕ, zero, suc, _*_}
-use lib.Dec.{eqb, leb}
-use lib.IntN.{ℤ, pos, negℤ, _+ℤ_, _-ℤ_}
+use lib.Dec.{eqb}
+use lib.IntN.{ℤ, pos, _-ℤ_}
 use lib.Signed.{leZ, ltZ}
-use lib.ListN.{length}
-use Rattle.calendar.specs.Meaning.{Row, meant, labelOf}
+use Rattle.calendar.specs.Limits.{inRange}
+use Rattle.calendar.specs.Meaning.{Row, meant}
 use Rattle.calendar.specs.Operation.{Binary, Operation, Alignment, alignment, fullUnary, fullBinary}
 use Rattle.calendar.specs.Operation.Binary.{alter, combine, anchor, select, by-labels}
 use Rattle.calendar.specs.Operation.Operation.{bottom, unary, binary}
 use Rattle.calendar.specs.Operation.Alignment.{free, partition, subcalendar, compatible}
-use Rattle.calendar.specs.Lists.{any, all, keep, from, first, equal, isSome, is, sameLabel, ifLabel}
+use Rattle.calendar.specs.Lists.{any, all, from, equal, isSome, is, sameLabel, ifLabel}
 use Rattle.calendar.specs.Granules.{full}
-use Rattle.calendar.specs.Size.{turn, spanOf, rise, coarse, size}
+use Rattle.calendar.specs.Size.{turn, spanOf, rise, coarse}
+use Rattle.calendar.specs.Distance.{size}
 use Rattle.calendar.specs.Compute.{firstFine, lastFine, result}
 
 -- ---- full operands (check 7)
@@ -84,17 +84,6 @@ emptied (binary o a b) = emptiedBy o a b
 
 -- ---- the labels of the working row (checks 12 and 11)
 
--- the limit of labels and instants, 1,000,000,000
-abbrev pub limit : ℤ
-limit = pos 1000000000
-
-abbrev pub between : ℤ → ℤ → ℤ → Bool
-between lo hi z = leZ lo z && leZ z hi
-
--- z is within ±1,000,000,000
-abbrev pub inRange : ℤ → Bool
-inRange = between (negℤ limit) limit
-
 -- the test passes at each instant of the working row
 abbrev pub throughout : Operation Row → (Option ℤ → Bool) → Bool
 throughout o f = all (λ t. f (result o t)) (from (pos 0) (size o .period))
@@ -108,32 +97,3 @@ unlabelled o = throughout o (λ l. not (isSome l))
 unfoldable pub labelsInRange : Operation Row → Bool
 unfolding result size
 labelsInRange o = throughout o (λ l. ifLabel l inRange)
-
--- ---- a row that is handed in (check 13)
-
--- the longest pool and the longest period, in cells
-abbrev pub poolLimit : ℕ
-poolLimit = 1048576
-
-abbrev pub labelsOf : List ℤ → List ℤ
-labelsOf = keep (λ z. isSome (labelOf z))
-
-abbrev pub cellsInRange : Row → Bool
-cellsInRange r = all inRange (labelsOf (r .cells))
-
--- no number is below the one before
-abbrev pub neverFalls : List ℤ → Bool
-neverFalls [] = true
-neverFalls (j ∷ []) = true
-neverFalls (j ∷ k ∷ l) = leZ j k && neverFalls (k ∷ l)
-
--- check 13 passes: not "length not P, not 1 ≤ N ≤ P ≤ 1,048,576, a label outside ±1,000,000,000, all '.', or labels that fall
--- (the next turn of the row included)"
-unfoldable pub sound : Row → Bool
-sound r =
-    let l = labelsOf (r .cells) in
-    eqb (length (r .cells)) (r .period)
-    && (leb 1 (r .distance) && (leb (r .distance) (r .period) && (leb (r .period) poolLimit
-    && (cellsInRange r
-    && (not (eqb (length l) 0)
-    && neverFalls (l ++ ((first l +ℤ pos (r .distance)) ∷ [])))))))

@@ -1,7 +1,7 @@
 -- The result of each kind over rows, as definitions that compute: the label of each instant, and the working row.
 use mathlib.Core.Option.{Option, none, some, Option·map}
 use mathlib.Core.Bool.{Bool, not, _&&_, cond}
-use mathlib.Core.List.{List, [], _∷_, map}
+use mathlib.Core.List.{[], _∷_, map}
 use Prim.Native.Nat.{ℕ, suc}
 use lib.IntN.{ℤ, pos, _+ℤ_, _-ℤ_, _*ℤ_}
 use lib.Signed.{leZ}
@@ -18,7 +18,8 @@ use Rattle.calendar.specs.Operation.Operation.{bottom, unary, binary}
 use Rattle.calendar.specs.Algebra.{pick, alteredFirst, alteredLast}
 use Rattle.calendar.specs.Lists.{any, keep, from, first, last, equal, onLabel, only, distinct}
 use Rattle.calendar.specs.Granules.{has, inside, meeting, within}
-use Rattle.calendar.specs.Size.{turn, coarse, fine, size}
+use Rattle.calendar.specs.Size.{turn, coarse, fine}
+use Rattle.calendar.specs.Distance.{size}
 
 -- ---- alter
 

@@ -3,7 +3,7 @@
 use mathlib.Core.Path.{_≡_}
 use mathlib.Core.Option.{Option, none, some, Option·map}
 use mathlib.Core.Bool.{Bool, false, cond}
-use mathlib.Core.List.{List}
+use mathlib.Core.List.{List, [], _∷_}
 use Prim.Native.Nat.{ℕ, _≤_}
 use lib.Dec.{eqb}
 use lib.IntN.{ℤ, pos, negsuc, _+ℤ_, _*ℤ_}
@@ -80,6 +80,10 @@ pub record Row : Type 0 where
 unfoldable pub meant : Row → Calendar
 unfolding floorDiv floorMod
 meant r t = raise (pos (r .distance) *ℤ floorDiv t (r .period)) (labelOf (getD (r .cells) (floorMod t (r .period)) empty))
+
+-- "Bottom stands ready with period 1, distance 1 and row [0]."
+abbrev pub bottomRow : Row
+bottomRow = record { period = 1; distance = 1; cells = pos 0 ∷ [] }
 
 -- "The least form uses the smallest P for which any N exists."
 pub record LeastRow (c : Calendar) (r : Row) : Type 0 where

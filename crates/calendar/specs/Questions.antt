@@ -10,10 +10,11 @@ use lib.ListN.{length}
 use Rattle.integers.specs.Parts.{up}
 use Rattle.calendar.specs.Meaning.{Row, meant}
 use Rattle.calendar.specs.Reply.{Reply, require}
-use Rattle.calendar.specs.Reply.Reply.{refused, answer}
+use Rattle.calendar.specs.Reply.Reply.{answer}
 use Rattle.calendar.specs.Lists.{any, all, first, last, is}
 use Rattle.calendar.specs.Granules.{has, granule, inside, within}
-use Rattle.calendar.specs.Checks.{inRange, labelsOf, sound}
+use Rattle.calendar.specs.Limits.{inRange}
+use Rattle.calendar.specs.Sound.{labelsOf, sound}
 
 -- a row as a caller hands it in, with any numbers: one below zero is as good as 0, which rule 13 refuses
 abbrev pub given : ℤ → ℤ → List ℤ → Row
@@ -66,6 +67,6 @@ abbrev pub labelledInstants : Row → ℕ
 labelledInstants r = length (labelsOf (r .cells))
 
 -- "The slot's length is last instant − first instant + 1."
-unfoldable pub extent : Row → ℤ → ℕ
+unfoldable pub granuleLength : Row → ℤ → ℕ
 unfolding granule
-extent r z = up (last (granule r z) -ℤ first (granule r z) +ℤ pos 1)
+granuleLength r z = up (last (granule r z) -ℤ first (granule r z) +ℤ pos 1)

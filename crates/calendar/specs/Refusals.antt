@@ -1,7 +1,5 @@
 -- The declared types of this crate, in document 01's terms.
-use mathlib.Core.List.{List, [], _∷_}
 use Prim.Native.Nat.{ℕ}
-use lib.IntN.{ℤ}
 use Rattle.integers.specs.Parts.{up}
 use Rattle.calendar.specs.Meaning.{Row}
 use Rattle.calendar.specs.declared.Calendar.{Calendar}

@@ -4,8 +4,8 @@ use Prim.Native.Nat.{ℕ, _+_, _-_}
 use lib.IntN.{ℤ}
 use lib.ListN.{length, replicate}
 use Rattle.calendar.specs.Meaning.{Row, empty}
-use Rattle.calendar.specs.Table.{Outcome}
-use Rattle.calendar.specs.Table.Outcome.{refusedAt, rows}
+use Rattle.calendar.specs.Outcome.{Outcome}
+use Rattle.calendar.specs.Outcome.Outcome.{refusedAt, rows}
 
 -- "Rows stand in it one behind the other from cell 0"
 abbrev pub joined : List Row → List ℤ

@@ -1,40 +1,21 @@
--- A whole table: what each entry names, its refusals in document 01's order, and the rows of the entries.
+-- The table: what each entry names, and the checks that need no row, 1 to 6 (document 01, "The table and its thirteen kinds").
 use mathlib.Core.Bool.{Bool, false, not, _&&_, _||_}
-use mathlib.Core.List.{List, [], _∷_, _++_}
-use Prim.Native.Nat.{ℕ, zero, suc, _+_, _-_, _*_, _/_, _%_}
+use mathlib.Core.List.{List, [], _∷_}
+use Prim.Native.Nat.{ℕ, _+_, _*_, _/_, _%_}
 use lib.Dec.{eqb, leb, ltb}
 use lib.IntN.{ℤ, pos, negsuc, negℤ}
 use lib.ListN.{length, getD}
 use Rattle.integers.specs.Parts.{up}
-use Rattle.calendar.specs.Meaning.{Row}
-use Rattle.calendar.specs.Operation.{Unary, Selection, SetOperation, Binary, Operation, mapOperation}
+use Rattle.calendar.specs.Limits.{poolLimit, entryLimit, million, between, inRange}
+use Rattle.calendar.specs.Operation.{Unary, Binary, Operation}
 use Rattle.calendar.specs.Operation.Unary.{group, shift, renumber}
 use Rattle.calendar.specs.Operation.Selection.{select-down, select-up, select-intersecting}
 use Rattle.calendar.specs.Operation.SetOperation.{union, intersection, difference}
 use Rattle.calendar.specs.Operation.Binary.{alter, combine, anchor, select, by-labels}
 use Rattle.calendar.specs.Operation.Operation.{bottom, unary, binary}
-use Rattle.calendar.specs.Reply.{Reply, require, andThen}
-use Rattle.calendar.specs.Reply.Reply.{refused, answer}
+use Rattle.calendar.specs.Reply.{Reply, require}
+use Rattle.calendar.specs.Reply.Reply.{answer}
 use Rattle.calendar.specs.Lists.{equal}
-use Rattle.calendar.specs.Size.{turn, span, size}
-use Rattle.calendar.specs.Compute.{working}
-use Rattle.calendar.specs.Checks.{fullOperands, aligned, emptied, unlabelled, labelsInRange, between, inRange, poolLimit}
-use Rattle.calendar.specs.Least.{least}
-
--- ---- an operation over rows, with the room it has
-
--- 7, "8 for the span", 9, 10, "8 for the working period", 12, 11; then the least form
-unfoldable pub converted : Operation Row → ℕ → Reply Row
-unfolding fullOperands span aligned emptied size unlabelled labelsInRange working least
-converted o room =
-    require 7 (fullOperands o)
-    (require 8 (leb (span (mapOperation turn o)) room)
-    (require 9 (aligned o)
-    (require 10 (not (emptied o))
-    (require 8 (leb (size o .period) room)
-    (require 12 (not (unlabelled o))
-    (require 11 (labelsInRange o)
-    (answer (least (working o)))))))))
 
 -- ---- the six numbers of an entry
 
@@ -59,9 +40,6 @@ entryAt t k =
     }
 
 -- ---- the limits of x, y and z
-
-abbrev pub million : ℤ
-million = pos 1000000
 
 abbrev pub zero? : ℤ → Bool
 zero? = equal (pos 0)
@@ -101,13 +79,13 @@ one f u = record { operands = 1; numbers = f; operation = λ e. unary (u e) (up 
 abbrev pub two : (Entry → Bool) → (Entry → Binary) → Kind
 two f o = record { operands = 2; numbers = f; operation = λ e. binary (o e) (up (e .first)) (up (e .second)) }
 
-abbrev pub none : Kind
-none = record { operands = 0; numbers = noNumbers; operation = λ e. bottom }
+abbrev pub noOperand : Kind
+noOperand = record { operands = 0; numbers = noNumbers; operation = λ e. bottom }
 
 -- document 01's table of kinds, 0 to 12
 abbrev pub kinds : List Kind
 kinds =
-    none
+    noOperand
     ∷ one factor (λ e. group (up (e .x)))
     ∷ one label (λ e. shift (e .x))
     ∷ two altering (λ e. alter (up (e .x)) (up (e .y)) (e .z))
@@ -130,7 +108,7 @@ earlier k (negsuc n) = false
 -- the operation of an entry that has k entries before it: checks 4, 5 and 6
 unfoldable pub named : ℕ → Entry → Reply (Operation ℕ)
 named k e =
-    let m = getD kinds (up (e .kind)) none in
+    let m = getD kinds (up (e .kind)) noOperand in
     let n = m .operands in
     require 4 (between (pos 0) (pos 12) (e .kind))
     (require 5 ((ltb n 1 || earlier k (e .first)) && (ltb n 2 || earlier k (e .second)))
@@ -138,35 +116,6 @@ named k e =
     (answer (m .operation e))))
 
 -- ---- the table
-
--- the row of bottom, "period 1, distance 1 and row [0]"
-abbrev pub bottomRow : Row
-bottomRow = record { period = 1; distance = 1; cells = pos 0 ∷ [] }
-
--- an operation over entry numbers, at the rows of these entries
-abbrev pub atRows : List Row → Operation ℕ → Operation Row
-atRows rows = mapOperation (λ k. getD rows k bottomRow)
-
--- the entry behind the rows of those before it
-unfoldable pub judged : List Row → ℕ → Entry → Reply Row
-unfolding named converted
-judged rows room e = andThen (named (length rows) e) (λ o. converted (atRows rows o) room)
-
--- "The answer holds the number and the entry (0 for 1 to 3)."
-pub data Outcome : Type 0 where
-  refusedAt : ℕ → ℕ → Outcome
-  rows : List Row → Outcome
-
--- the n entries from k on, behind the rows of those before. "Room is the pool's length less the least periods of all earlier
--- entries."
-unfoldable pub entries : List ℤ → ℕ → ℕ → List Row → ℕ → Outcome
-unfolding judged
-entries t zero k before room = rows before
-entries t (suc n) k before room =
-    elim (judged before room (entryAt t k)) [ refused m ↦ refusedAt m k | answer r ↦ entries t n (suc k) (before ++ (r ∷ [])) (room - r .period) ]
-
-abbrev pub entryLimit : ℕ
-entryLimit = 32
 
 -- checks 1, 2 and 3
 abbrev pub admitted : List ℤ → ℕ → ℕ → Reply ℕ
@@ -176,8 +125,3 @@ admitted t headings pool =
     (require 2 (leb n headings)
     (require 3 (leb pool poolLimit)
     (answer n)))
-
--- what converting the table comes to, with so many headings and so many cells lent
-unfoldable pub outcome : List ℤ → ℕ → ℕ → Outcome
-unfolding entries
-outcome t headings pool = elim (admitted t headings pool) [ refused m ↦ refusedAt m 0 | answer n ↦ entries t n 0 [] pool ]

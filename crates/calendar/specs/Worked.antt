@@ -4,9 +4,10 @@ use mathlib.Core.List.{List, [], _∷_, _++_, map}
 use Prim.Native.Nat.{ℕ, _/_}
 use lib.IntN.{ℤ, pos, negsuc}
 use lib.ListN.{getD}
-use Rattle.calendar.specs.Meaning.{Row, meant, empty}
-use Rattle.calendar.specs.Table.{outcome, bottomRow}
-use Rattle.calendar.specs.Table.Outcome.{refusedAt, rows}
+use Rattle.calendar.specs.Limits.{entryLimit, headingLength}
+use Rattle.calendar.specs.Meaning.{Row, meant, empty, bottomRow}
+use Rattle.calendar.specs.Outcome.{outcome}
+use Rattle.calendar.specs.Outcome.Outcome.{refusedAt, rows}
 use Rattle.calendar.specs.Stored.{headingsAfter, poolAfter}
 
 -- ---- what is shown of a conversion
@@ -17,10 +18,10 @@ pub data Shown : Type 0 where
   refusal : ℕ → ℕ → Shown
   lists : List ℕ → List ℤ → Shown
 
--- the row of entry k, with 32 headings and a pool of p cells
+-- the row of entry k, with as many headings as a table has entries at most and a pool of p cells
 unfoldable pub rowIn : List ℤ → ℕ → ℕ → Shown
 unfolding outcome
-rowIn t p k = elim (outcome t 32 p) [ refusedAt m e ↦ refusal m e | rows l ↦ row (getD l k bottomRow) ]
+rowIn t p k = elim (outcome t entryLimit p) [ refusedAt m e ↦ refusal m e | rows l ↦ row (getD l k bottomRow) ]
 
 -- the same in a pool of 100 cells, which is enough for each table here
 unfoldable pub rowOf : List ℤ → ℕ → Shown
@@ -30,12 +31,12 @@ rowOf t k = rowIn t 100 k
 -- the label of an instant in entry k
 unfoldable pub labelIn : List ℤ → ℕ → ℤ → Shown
 unfolding outcome meant
-labelIn t k i = elim (outcome t 32 100) [ refusedAt m e ↦ refusal m e | rows l ↦ label (meant (getD l k bottomRow) i) ]
+labelIn t k i = elim (outcome t entryLimit 100) [ refusedAt m e ↦ refusal m e | rows l ↦ label (meant (getD l k bottomRow) i) ]
 
 -- the lists left behind: m heading numbers and p cells
 unfoldable pub listsLeft : List ℤ → ℕ → ℕ → Shown
 unfolding outcome headingsAfter poolAfter
-listsLeft t m p = let o = outcome t (m / 3) p in lists (headingsAfter m o) (poolAfter p o)
+listsLeft t m p = let o = outcome t (m / headingLength) p in lists (headingsAfter m o) (poolAfter p o)
 
 -- ---- tables
 

@@ -1,10 +1,20 @@
 // The calendar type with its constants, and the refusals by name.
 
 ghost use mathlib.Core.Path.{_≡_};
-ghost use Rattle.calendar.specs.Meaning.{empty};
-ghost use Rattle.calendar.specs.Checks.{inRange};
+ghost use Rattle.calendar.specs.Meaning.{empty, bottomRow};
+ghost use Rattle.calendar.specs.Limits.{inRange};
 ghost use Rattle.calendar.specs.Refusals.{numberOf, rowOfCalendar};
-ghost use Rattle.calendar.specs.Table.{bottomRow};
+
+// The most entries that a table has.
+pub const ENTRY_LIMIT: usize = 32;
+
+// The most cells that a pool or a row has.
+pub const POOL_LIMIT: usize = 1048576;
+
+pub const LONGEST_PERIOD: i64 = POOL_LIMIT as i64;
+
+// The longest lateness that may be asked about, in instants.
+pub const LATE_LIMIT: i64 = 1048576;
 
 // A calendar whose row has one cell: its period, its distance and the row.
 pub struct Calendar {

@@ -7,9 +7,9 @@ ghost use Rattle.cursors.specs.Found.{Sound, Within};
 ghost use Rattle.cursors.specs.Cursor.{cursorAt};
 ghost use Rattle.containment.specs.Sides.{Stands};
 ghost use Rattle.candidates.specs.Tallies.{counts, CandidateAt};
+use containment::Place;
 use cursors::Cursor;
 use cursors::Found;
-use containment::Place;
 
 // What an instant says of the granules in question: none shows that was not looked at, one shows that is not in question, the next one
 // shows, or b's granule is over.

@@ -35,7 +35,7 @@ fn empty_tally() -> Tally
 
 // The tally with one granule more, j: it is the next in order.
 fn counted(t: Tally, j: i64, low: i64, high: i64) -> Tally
-    requires { ⌜ (pos 0 ≤ℤ t .count) × (t .count ≤ℤ pos (2 ^ 21)) ⌝ }
+    requires { ⌜ (pos 0 ≤ℤ t .count) × (t .count ≤ℤ pos (2 ^ 23)) ⌝ }
     ensures { λ r. ⌜ ((l : List ℤ) → t ≡ tallyOf low high l → r ≡ tallyOf low high (l ++ (j ∷ []))) ⌝ }
 {
     let count = t.count + 1;
@@ -56,7 +56,7 @@ fn counted(t: Tally, j: i64, low: i64, high: i64) -> Tally
 
 // The same of a walk back: j is the one before.
 fn counted_back(t: Tally, j: i64, low: i64, high: i64) -> Tally
-    requires { ⌜ (pos 0 ≤ℤ t .count) × (t .count ≤ℤ pos (2 ^ 21)) ⌝ }
+    requires { ⌜ (pos 0 ≤ℤ t .count) × (t .count ≤ℤ pos (2 ^ 23)) ⌝ }
     ensures { λ r. ⌜ ((l : List ℤ) → t ≡ tallyBackOf low high l → r ≡ tallyBackOf low high (l ++ (j ∷ []))) ⌝ }
 {
     let count = t.count + 1;

@@ -17,18 +17,18 @@ ghost use Rattle.kinds.specs.Stands.{rowIn};
 ghost use Rattle.fill_shared.specs.Given.{Given};
 ghost use Rattle.fill_shared.specs.Placed.{Placed, over, Fills};
 ghost use Rattle.combining.specs.Lying.{liesAt};
+use containment::Place;
+use cursors::Cursor;
+use cursors::Found;
 use fill_shared::Filled;
 use fill_shared::any;
 use fill_shared::end_of;
 use fill_shared::outcome;
-use kinds::Operand;
-use cursors::Cursor;
-use cursors::Found;
 use fill_stretches::cell_of;
 use fill_stretches::fill_leading;
 use fill_stretches::fill_stretch;
 use fill_stretches::in_limits;
-use containment::Place;
+use kinds::Operand;
 
 // Whether b's granule k lies in a's granule of t, which is one of its instants: its first one, where it is fresh.
 fn lies(

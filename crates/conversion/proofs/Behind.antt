@@ -9,12 +9,14 @@ use native.Mathlib.Omega.{arith}
 use lib.IntN.{ℤ}
 use lib.ListN.{length, getD, take, drop, replicate, length-append, length-replicate}
 use lib.Seq.{take-at, drop-at, drop-drop}
-use Rattle.calendar.specs.Meaning.{Row}
+use Rattle.calendar.specs.Meaning.{Row, bottomRow}
 use Rattle.calendar.specs.Operation.{Operation}
-use Rattle.calendar.specs.Checks.{sound, poolLimit}
+use Rattle.calendar.specs.Sound.{sound}
+use Rattle.calendar.specs.Limits.{poolLimit, headingLength}
 use Rattle.calendar.specs.Reply.{Reply, andThen}
 use Rattle.calendar.specs.Reply.Reply.{refused, answer}
-use Rattle.calendar.specs.Table.{Entry, entryAt, named, converted, judged, atRows, bottomRow}
+use Rattle.calendar.specs.Table.{Entry, entryAt, named}
+use Rattle.calendar.specs.Outcome.{converted, judged, atRows}
 use Rattle.calendar.specs.Stored.{joined, headingsFrom, filled}
 use Rattle.granules.proofs.Sound.{sound-valid}
 use Rattle.algebra.proofs.Operations.{operands-weaken, operands-map, factor-map}
@@ -65,7 +67,7 @@ headings-behind (c ∷ l) r s h =
 -- ---- the rows l, and r behind them
 
 module _ (l : List Row) (k used e : ℕ) (numbers headings : List ℕ) (before pool : List ℤ) (r : Row) (many : length l ≡ k)
-    (s : Stores l numbers before used) (a : Added k used numbers before r e headings pool) (heading : 3 * k + 3 ≤ length numbers)
+    (s : Stores l numbers before used) (a : Added k used numbers before r e headings pool) (heading : headingLength * k + headingLength ≤ length numbers)
     (is-sound : sound r ≡ true) (fits : r .period ≤ length before - used) (same : length pool ≡ length before) where
   whole : length (r .cells) ≡ r .period
   whole = sound-valid r is-sound .whole
@@ -80,15 +82,15 @@ module _ (l : List Row) (k used e : ℕ) (numbers headings : List ℕ) (before p
   abbrev left : ℕ
   left = length numbers - length old
 
-  old-length : length old ≡ 3 * k
+  old-length : length old ≡ headingLength * k
   old-length = omega (arith, headings-length 0 l)
 
-  old-is : take (3 * k) numbers ≡ old
-  old-is = ap (take (3 * k)) (s .numbers) ∙ take-at old (replicate left 0) (3 * k) old-length
+  old-is : take (headingLength * k) numbers ≡ old
+  old-is = ap (take (headingLength * k)) (s .numbers) ∙ take-at old (replicate left 0) (headingLength * k) old-length
 
-  rest-is : drop (3 * k + 3) numbers ≡ replicate (left - 3) 0
+  rest-is : drop (headingLength * k + headingLength) numbers ≡ replicate (left - 3) 0
   rest-is =
-      sym (drop-drop 3 (3 * k) numbers) ∙ ap (drop 3) (ap (drop (3 * k)) (s .numbers) ∙ drop-at old (replicate left 0) (3 * k) old-length) ∙ drop-alike 0 left 3
+      sym (drop-drop 3 (headingLength * k) numbers) ∙ ap (drop 3) (ap (drop (headingLength * k)) (s .numbers) ∙ drop-at old (replicate left 0) (headingLength * k) old-length) ∙ drop-alike 0 left 3
 
   written : headings ≡ old ++ headed used r (replicate (left - 3) 0)
   written = a .heading ∙ ap₂ (λ (o n : List ℕ). o ++ headed used r n) old-is rest-is
@@ -127,7 +129,7 @@ module _ (l : List Row) (k used e : ℕ) (numbers headings : List ℕ) (before p
 
 -- what became of the entry
 pub entered : (t : List ℤ) (k used : ℕ) (l : List Row) (numbers headings : List ℕ) (before pool : List ℤ) (x : Entry) (c : Code.Entry) → length l ≡ k → Stores l numbers before used
-    → 3 * k + 3 ≤ length numbers → length before ≤ poolLimit → x ≡ entryAt t k → length pool ≡ length before
+    → headingLength * k + headingLength ≤ length numbers → length before ≤ poolLimit → x ≡ entryAt t k → length pool ≡ length before
     → Became k used numbers before (judged l (length before - used) x) c headings pool → Entered t k l c headings pool
 entered t k used l numbers headings before pool x c many s heading limit is same = by c
   where

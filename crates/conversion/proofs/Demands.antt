@@ -7,14 +7,16 @@ use Prim.Native.Nat.{ℕ, _/_, _<_}
 use native.Mathlib.Omega.{arith}
 use lib.IntN.{ℤ}
 use lib.ListN.{length, getD}
+use Rattle.calendar.specs.Limits.{headingLength}
 use Rattle.calendar.specs.Meaning.{Row, Calendar, Same}
-use Rattle.calendar.specs.Table.{Outcome, outcome}
-use Rattle.calendar.specs.Table.Outcome.{rows}
+use Rattle.calendar.specs.Outcome.{Outcome, outcome}
+use Rattle.calendar.specs.Outcome.Outcome.{rows}
 use Rattle.calendar.specs.Stored.{poolAfter, headingsAfter}
 use Rattle.granules.proofs.Equal.{row-ext, equal-rows}
 use Rattle.algebra.specs.TableMeaning.{Meant, nothing, TableReply, TableMeans}
 use Rattle.algebra.specs.TableMeaning.TableReply.{refusedAt, means}
-use Rattle.algebra.specs.Represents.{Represents, Agrees}
+use Rattle.algebra.specs.Represents.{Represents}
+use Rattle.algebra.specs.Agrees.{Agrees}
 use Rattle.algebra.proofs.Demand2 as definitions
 use Rattle.laws.specs.Terms.{Term}
 use Rattle.laws.specs.Laws.{Law}
@@ -31,11 +33,11 @@ use Rattle.conversion.proofs.LeftRows.{means-length, shows-refusal, sho
 
 -- whatever a table means is shown by the answer and the lists
 pub demand-2-only : (t : List ℤ) (h p : ℕ) (c : Conversion) (headings : List ℕ) (pool : List ℤ) → Left t h p c headings pool
-    → (m : TableReply) → TableMeans t (h / 3) p m → Shows m h p c headings pool
+    → (m : TableReply) → TableMeans t (h / headingLength) p m → Shows m h p c headings pool
 demand-2-only t h p c headings pool left m a =
-    rw (left .answer, left .numbers, left .cells) (by m (outcome t (h / 3) p) refl a (definitions.demand-2-only t (h / 3) p m a))
+    rw (left .answer, left .numbers, left .cells) (by m (outcome t (h / headingLength) p) refl a (definitions.demand-2-only t (h / headingLength) p m a))
   where
-    by : (m : TableReply) (o : Outcome) → outcome t (h / 3) p ≡ o → TableMeans t (h / 3) p m → Agrees m o → Shows m h p (answered o) (headingsAfter h o) (poolAfter p o)
+    by : (m : TableReply) (o : Outcome) → outcome t (h / headingLength) p ≡ o → TableMeans t (h / headingLength) p m → Agrees m o → Shows m h p (answered o) (headingsAfter h o) (poolAfter p o)
     by (refusedAt n k) (Outcome.refusedAt n′ k′) e m (x, y) = rw (x, y) (shows-refusal n′ k′ h p)
     by (refusedAt n k) (Outcome.rows l) e m x = absurd x
     by (means ms) (Outcome.refusedAt n′ k′) e m x = absurd x
@@ -43,22 +45,22 @@ demand-2-only t h p c headings pool left m a =
 
 -- and each table means something
 pub demand-2 : (t : List ℤ) (h p : ℕ) (c : Conversion) (headings : List ℕ) (pool : List ℤ) → Left t h p c headings pool
-    → (m : TableReply) × TableMeans t (h / 3) p m × Shows m h p c headings pool
+    → (m : TableReply) × TableMeans t (h / headingLength) p m × Shows m h p c headings pool
 demand-2 t h p c headings pool left =
-    let d = definitions.demand-2 t (h / 3) p in
+    let d = definitions.demand-2 t (h / headingLength) p in
     (d .0, d .1, demand-2-only t h p c headings pool left (d .0) (d .1))
 
 -- ---- demand 3
 
 -- a table that is answered means a calendar for each of its entries
 pub converted-means : (t : List ℤ) (h p : ℕ) (headings : List ℕ) (pool : List ℤ) → Left t h p Converted headings pool
-    → (ms : List Meant) × TableMeans t (h / 3) p (means ms) × (length ms ≡ length t / 6)
+    → (ms : List Meant) × TableMeans t (h / headingLength) p (means ms) × (length ms ≡ length t / 6)
 converted-means t h p headings pool left =
     let d = demand-2 t h p Converted headings pool left in
     by (d .0) (d .1) (d .2)
   where
-    by : (m : TableReply) → TableMeans t (h / 3) p m → Shows m h p Converted headings pool
-        → (ms : List Meant) × TableMeans t (h / 3) p (means ms) × (length ms ≡ length t / 6)
+    by : (m : TableReply) → TableMeans t (h / headingLength) p m → Shows m h p Converted headings pool
+        → (ms : List Meant) × TableMeans t (h / headingLength) p (means ms) × (length ms ≡ length t / 6)
     by (refusedAt n k) m s = let z : _≡_ {A = ℕ} 0 1 = cc (s .answer) in absurd (omega arith)
     by (means ms) m s = (ms, m, means-length m .0)
 
@@ -77,8 +79,8 @@ demand-3 x y k l h h′ =
     )
 
 -- the same table over the definitions, with the rows that are stored
-stored : (x : ConvertedTable) → (l : List Row) × (outcome (x .table) (x .h / 3) (x .p) ≡ rows l)
-stored x = by (outcome (x .table) (x .h / 3) (x .p)) (x .left .answer)
+stored : (x : ConvertedTable) → (l : List Row) × (outcome (x .table) (x .h / headingLength) (x .p) ≡ rows l)
+stored x = by (outcome (x .table) (x .h / headingLength) (x .p)) (x .left .answer)
   where
     by : (o : Outcome) → Converted ≡ answered o → (l : List Row) × (o ≡ rows l)
     by (Outcome.refusedAt n k) e = let z : _≡_ {A = ℕ} 0 1 = cc in absurd (omega arith)
@@ -87,7 +89,7 @@ stored x = by (outcome (x .table) (x .h / 3) (x .p)) (x .left .answer)
 abbrev defined : ConvertedTable → Answered
 defined x = record {
   table = x .table;
-  headings = x .h / 3;
+  headings = x .h / headingLength;
   pool = x .p;
   meanings = x .meanings;
   stored = stored x .0;

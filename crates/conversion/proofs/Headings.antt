@@ -7,8 +7,8 @@ use native.Mathlib.Omega.{arith}
 use lib.IntN.{ℤ}
 use lib.ListN.{length, getD, take, replicate, length-append, length-replicate}
 use lib.Seq.{drop-append-seam, take-at, getD-append-add}
-use Rattle.calendar.specs.Meaning.{Row, empty}
-use Rattle.calendar.specs.Table.{bottomRow}
+use Rattle.calendar.specs.Limits.{headingLength}
+use Rattle.calendar.specs.Meaning.{Row, empty, bottomRow}
 use Rattle.calendar.specs.Stored.{joined, headingsFrom, filled}
 use Rattle.granules.proofs.Equal.{row-ext}
 use Rattle.conversion.specs.Left.{startAt, endAt, rowAt}
@@ -38,19 +38,19 @@ Whole l = (r : Row) → List·Memᴰ r l → length (r .cells) ≡ r .period
 whole-tail : (r : Row) (l : List Row) → Whole (r ∷ l) → Whole l
 whole-tail r l w s m = w s (List·Memᴰ·tail m)
 
-pub headings-length : (s : ℕ) (l : List Row) → length (headingsFrom s l) ≡ 3 * length l
+pub headings-length : (s : ℕ) (l : List Row) → length (headingsFrom s l) ≡ headingLength * length l
 headings-length s [] = refl
 headings-length s (r ∷ l) = omega (arith, headings-length (s + r .period) l)
 
 -- a number of the heading k + 1 is that of the heading k where the first is taken away
 start-suc : (a b c : ℕ) (l : List ℕ) (k : ℕ) → startAt (a ∷ b ∷ c ∷ l) (suc k) ≡ startAt l k
 start-suc a b c l k =
-    let e : 3 * suc k ≡ suc (suc (suc (3 * k))) = omega arith in
+    let e : headingLength * suc k ≡ suc (suc (suc (headingLength * k))) = omega arith in
     ap (λ (i : ℕ). getD (a ∷ b ∷ c ∷ l) i 0) e
 
-number-suc : (a b c : ℕ) (l : List ℕ) (k j : ℕ) → getD (a ∷ b ∷ c ∷ l) (3 * suc k + j) 0 ≡ getD l (3 * k + j) 0
+number-suc : (a b c : ℕ) (l : List ℕ) (k j : ℕ) → getD (a ∷ b ∷ c ∷ l) (headingLength * suc k + j) 0 ≡ getD l (headingLength * k + j) 0
 number-suc a b c l k j =
-    let e : 3 * suc k + j ≡ suc (suc (suc (3 * k + j))) = omega arith in
+    let e : headingLength * suc k + j ≡ suc (suc (suc (headingLength * k + j))) = omega arith in
     ap (λ (i : ℕ). getD (a ∷ b ∷ c ∷ l) i 0) e
 
 end-suc : (a b c : ℕ) (l : List ℕ) (k : ℕ) → endAt (a ∷ b ∷ c ∷ l) (suc k) ≡ endAt l k
@@ -127,5 +127,5 @@ module _ (l : List Row) (whole : Whole l) (h p : ℕ) where
   pub behind-left : (i : ℕ) → ((k : ℕ) → k < length l → endAt (numbersOf h l) k ≤ i) → getD (cellsOf p l) i empty ≡ empty
   behind-left i b = filled-behind p empty (joined l) i (omega (arith, behind-from l whole 0 zeros i (omega arith) b))
 
-  pub beyond-left : (i : ℕ) → 3 * length l ≤ i → getD (numbersOf h l) i 0 ≡ 0
+  pub beyond-left : (i : ℕ) → headingLength * length l ≤ i → getD (numbersOf h l) i 0 ≡ 0
   beyond-left i b = filled-behind h 0 (headingsFrom 0 l) i (omega (arith, headings-length 0 l))

@@ -10,10 +10,11 @@ use lib.Dec.{eqb, leb}
 use lib.IntN.{ℤ}
 use lib.ListN.{length, getD, replicate, length-append}
 use Rattle.calendar.specs.Meaning.{Row, empty}
-use Rattle.calendar.specs.Checks.{poolLimit}
+use Rattle.calendar.specs.Limits.{poolLimit, entryLimit, headingLength}
 use Rattle.calendar.specs.Reply.Reply.{answer}
-use Rattle.calendar.specs.Table.{admitted, entryLimit, outcome}
-use Rattle.calendar.specs.Table.Outcome.{refusedAt, rows}
+use Rattle.calendar.specs.Table.{admitted}
+use Rattle.calendar.specs.Outcome.{outcome}
+use Rattle.calendar.specs.Outcome.Outcome.{refusedAt, rows}
 use Rattle.calendar.specs.Stored.{joined, headingsFrom, poolAfter, headingsAfter}
 use Rattle.granules.proofs.Tests.{leb-iff}
 use Rattle.granules.proofs.Sound.{sound-valid}
@@ -21,7 +22,8 @@ use Rattle.algebra.specs.TableMeaning.{Meant, nothing, Entries, TableMeans}
 use Rattle.algebra.specs.TableMeaning.Entries.{done, next}
 use Rattle.algebra.specs.TableMeaning.TableReply.{means}
 use Rattle.algebra.specs.TableMeaning.TableMeans.{entries}
-use Rattle.algebra.specs.Represents.{Represents, RepresentsAll}
+use Rattle.algebra.specs.Represents.{Represents}
+use Rattle.algebra.specs.Agrees.{RepresentsAll}
 use Rattle.algebra.proofs.Operations.{require-answer}
 use Rattle.algebra.proofs.Demand2.{represents-length, represents-at, stored-sound, stored-fit}
 use Rattle.conversion.specs.Left.{ShowsRefusal, ShowsRows}
@@ -60,11 +62,11 @@ shows-refusal n k h p = record {
   cells = ap (λ (i : ℕ). replicate i empty) (sub-zero p);
 }
 
-module _ (t : List ℤ) (h p : ℕ) (l : List Row) (stores : outcome t (h / 3) p ≡ rows l) where
+module _ (t : List ℤ) (h p : ℕ) (l : List Row) (stores : outcome t (h / headingLength) p ≡ rows l) where
   whole : Whole l
-  whole r m = sound-valid r (stored-sound t (h / 3) p l stores r m) .whole
+  whole r m = sound-valid r (stored-sound t (h / headingLength) p l stores r m) .whole
 
-  pub shows-rows : (ms : List Meant) → TableMeans t (h / 3) p (means ms) → RepresentsAll ms l
+  pub shows-rows : (ms : List Meant) → TableMeans t (h / headingLength) p (means ms) → RepresentsAll ms l
       → ShowsRows ms h p Converted (headingsAfter h (rows l)) (poolAfter p (rows l))
   unfolding headingsAfter poolAfter
   shows-rows ms m a =
@@ -72,7 +74,7 @@ module _ (t : List ℤ) (h p : ℕ) (l : List Row) (stores : outcome t (h / 3) p
       let fit = means-length m .1 in
       record {
         answer = refl;
-        lengths = (filled-length h 0 (headingsFrom 0 l) (omega (arith, headings-length 0 l)), filled-length p empty (joined l) (stored-fit t (h / 3) p l stores));
+        lengths = (filled-length h 0 (headingsFrom 0 l) (omega (arith, headings-length 0 l)), filled-length p empty (joined l) (stored-fit t (h / headingLength) p l stores));
         rows = λ k b. subst (Represents (getD ms k nothing)) (sym (row-left l whole h p k (omega arith))) (represents-at ms l a k (omega arith));
         first = first-left l h;
         next = λ k b. next-left l whole h p k (omega arith);

@@ -11,11 +11,12 @@ use lib.Dec.{eqb, leb}
 use lib.IntN.{ℤ}
 use lib.ListN.{length, take, replicate, length-append}
 use Rattle.calendar.specs.Meaning.{Row, empty}
-use Rattle.calendar.specs.Checks.{poolLimit}
+use Rattle.calendar.specs.Limits.{poolLimit, entryLimit, headingLength}
 use Rattle.calendar.specs.Reply.{Reply}
 use Rattle.calendar.specs.Reply.Reply.{refused, answer}
-use Rattle.calendar.specs.Table.{Outcome, entryAt, judged, entries, entryLimit, admitted, outcome}
-use Rattle.calendar.specs.Table.Outcome.{refusedAt, rows}
+use Rattle.calendar.specs.Table.{entryAt, admitted}
+use Rattle.calendar.specs.Outcome.{Outcome, judged, entries, outcome}
+use Rattle.calendar.specs.Outcome.Outcome.{refusedAt, rows}
 use Rattle.calendar.specs.Stored.{joined, filled, poolAfter, headingsAfter}
 use Rattle.granules.proofs.Tests.{and-iff, eqb-iff, leb-iff}
 use Rattle.granules.proofs.Sound.{sound-valid}
@@ -136,25 +137,25 @@ module _ (t : List ℤ) (n h p k : ℕ) (headings : List ℕ) (pool : List ℤ) 
 
 -- ---- checks 1, 2 and 3
 
-pub outcome-refused : (t : List ℤ) (h p m : ℕ) (headings : List ℕ) (pool : List ℤ) → admitted t (h / 3) p ≡ refused m → Cleared h p headings pool
-    → Ended h p (outcome t (h / 3) p) (Conversion.Refused m 0) headings pool
-outcome-refused t h p m headings pool e = ended-refused h p m 0 _ headings pool (outcome-is t (h / 3) p ∙ ap (afterTable t p) e)
+pub outcome-refused : (t : List ℤ) (h p m : ℕ) (headings : List ℕ) (pool : List ℤ) → admitted t (h / headingLength) p ≡ refused m → Cleared h p headings pool
+    → Ended h p (outcome t (h / headingLength) p) (Conversion.Refused m 0) headings pool
+outcome-refused t h p m headings pool e = ended-refused h p m 0 _ headings pool (outcome-is t (h / headingLength) p ∙ ap (afterTable t p) e)
 
-pub outcome-entries : (t : List ℤ) (h p n : ℕ) (r : Conversion) (headings : List ℕ) (pool : List ℤ) → admitted t (h / 3) p ≡ answer n
-    → Ended h p (entries t n 0 [] p) r headings pool → Ended h p (outcome t (h / 3) p) r headings pool
+pub outcome-entries : (t : List ℤ) (h p n : ℕ) (r : Conversion) (headings : List ℕ) (pool : List ℤ) → admitted t (h / headingLength) p ≡ answer n
+    → Ended h p (entries t n 0 [] p) r headings pool → Ended h p (outcome t (h / headingLength) p) r headings pool
 outcome-entries t h p n r headings pool e =
-    subst (λ (o : Outcome). Ended h p o r headings pool) (sym (outcome-is t (h / 3) p ∙ ap (afterTable t p) e))
+    subst (λ (o : Outcome). Ended h p o r headings pool) (sym (outcome-is t (h / headingLength) p ∙ ap (afterTable t p) e))
 
-pub admitted-due : (t : List ℤ) (h n : ℕ) (headings : List ℕ) (pool : List ℤ) → headings ≡ filled h 0 [] → admitted t (h / 3) (length pool) ≡ answer n
+pub admitted-due : (t : List ℤ) (h n : ℕ) (headings : List ℕ) (pool : List ℤ) → headings ≡ filled h 0 [] → admitted t (h / headingLength) (length pool) ≡ answer n
     → TableDue t n headings pool
 admitted-due t h n headings pool c e =
     let r₁ = require-answer 1 (eqb (length t % 6) 0 && (leb 1 (length t / 6) && leb (length t / 6) entryLimit)) _ e in
-    let r₂ = require-answer 2 (leb (length t / 6) (h / 3)) _ (r₁ .1) in
+    let r₂ = require-answer 2 (leb (length t / 6) (h / headingLength)) _ (r₁ .1) in
     let r₃ = require-answer 3 (leb (length pool) poolLimit) _ (r₂ .1) in
     let b = and-iff _ _ .0 (r₁ .0) in
     let multiple = eqb-iff (length t % 6) 0 .0 (b .0) in
     let few = leb-iff (length t / 6) entryLimit .0 (and-iff (leb 1 (length t / 6)) _ .0 (b .1) .1) in
-    let headed = leb-iff (length t / 6) (h / 3) .0 (r₂ .0) in
+    let headed = leb-iff (length t / 6) (h / headingLength) .0 (r₂ .0) in
     let short = leb-iff (length pool) poolLimit .0 (r₃ .0) in
     let n-is : length t / 6 ≡ n = cc (r₃ .1) in
     let h-is = ap length c ∙ filled-length h 0 in

@@ -1,6 +1,6 @@
 -- The answer of the code for what converting a table comes to.
-use Rattle.calendar.specs.Table.{Outcome}
-use Rattle.calendar.specs.Table.Outcome.{refusedAt, rows}
+use Rattle.calendar.specs.Outcome.{Outcome}
+use Rattle.calendar.specs.Outcome.Outcome.{refusedAt, rows}
 use Rattle.conversion.specs.declared.Conversion.{Conversion}
 use Rattle.conversion.specs.declared.Conversion.the-variants.{Refused, Converted}
 

@@ -4,8 +4,9 @@ use mathlib.Core.List.{List}
 use Prim.Native.Nat.{ℕ, suc, _+_, _*_, _/_, _≤_, _<_}
 use lib.IntN.{ℤ}
 use lib.ListN.{length, getD, take, drop, replicate}
+use Rattle.calendar.specs.Limits.{headingLength}
 use Rattle.calendar.specs.Meaning.{Row, empty}
-use Rattle.calendar.specs.Table.{outcome}
+use Rattle.calendar.specs.Outcome.{outcome}
 use Rattle.calendar.specs.Stored.{poolAfter, headingsAfter}
 use Rattle.algebra.specs.TableMeaning.{Meant, nothing, TableReply, TableMeans}
 use Rattle.algebra.specs.TableMeaning.TableReply.{refusedAt, means}
@@ -18,13 +19,13 @@ use Rattle.conversion.specs.declared.Conversion.the-variants.{Refused, C
 
 -- "one record for each entry: start, period, distance", three numbers a heading: those of entry k
 abbrev pub startAt : List ℕ → ℕ → ℕ
-startAt headings k = getD headings (3 * k) 0
+startAt headings k = getD headings (headingLength * k) 0
 
 abbrev pub periodAt : List ℕ → ℕ → ℕ
-periodAt headings k = getD headings (3 * k + 1) 0
+periodAt headings k = getD headings (headingLength * k + 1) 0
 
 abbrev pub distanceAt : List ℕ → ℕ → ℕ
-distanceAt headings k = getD headings (3 * k + 2) 0
+distanceAt headings k = getD headings (headingLength * k + 2) 0
 
 -- the cell behind its row
 abbrev pub endAt : List ℕ → ℕ → ℕ
@@ -42,9 +43,9 @@ rowAt headings pool k = record {
 
 -- the contract of `convert`, clause by clause: its answer to the table t and the lists afterwards, lent with h numbers and p cells of any content
 pub record Left (t : List ℤ) (h p : ℕ) (c : Conversion) (headings : List ℕ) (pool : List ℤ) : Type 0 where
-  pub answer : c ≡ answered (outcome t (h / 3) p)
-  pub numbers : headings ≡ headingsAfter h (outcome t (h / 3) p)
-  pub cells : pool ≡ poolAfter p (outcome t (h / 3) p)
+  pub answer : c ≡ answered (outcome t (h / headingLength) p)
+  pub numbers : headings ≡ headingsAfter h (outcome t (h / headingLength) p)
+  pub cells : pool ≡ poolAfter p (outcome t (h / headingLength) p)
 
 -- ---- what the lists are to show, by what the table means
 
@@ -66,7 +67,7 @@ pub record ShowsRows (ms : List Meant) (h p : ℕ) (c : Conversion) (headings : 
   -- "and cells behind the last row are '.'"
   pub behind : (i : ℕ) → ((k : ℕ) → k < length ms → endAt headings k ≤ i) → getD pool i empty ≡ empty
   -- "Headings beyond the last entry are zero", and "one or two left over are no heading and end as zero"
-  pub beyond : (i : ℕ) → 3 * length ms ≤ i → getD headings i 0 ≡ 0
+  pub beyond : (i : ℕ) → headingLength * length ms ≤ i → getD headings i 0 ≡ 0
 
 -- the answer and the lists, lent with h numbers and p cells, show what the table means
 abbrev pub Shows : TableReply → ℕ → ℕ → Conversion → List ℕ → List ℤ → Type 0
@@ -85,7 +86,7 @@ pub record ConvertedTable : Type 0 where
   pub pool : List ℤ
   pub left : Left table h p Converted headings pool
   pub meanings : List Meant
-  pub means : TableMeans table (h / 3) p (means meanings)
+  pub means : TableMeans table (h / headingLength) p (means meanings)
 
 -- the row of its entry k
 abbrev pub rowOf : ConvertedTable → ℕ → Row

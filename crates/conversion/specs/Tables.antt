@@ -5,8 +5,8 @@ use Prim.Native.Nat.{ℕ, _*_, _≤_}
 use lib.IntN.{ℤ}
 use lib.ListN.{length}
 use Rattle.calendar.specs.Meaning.{empty}
-use Rattle.calendar.specs.Checks.{poolLimit}
-use Rattle.calendar.specs.Table.{Outcome, entryLimit}
+use Rattle.calendar.specs.Limits.{poolLimit, entryLimit, headingLength}
+use Rattle.calendar.specs.Outcome.{Outcome}
 use Rattle.calendar.specs.Stored.{filled, poolAfter, headingsAfter}
 use Rattle.conversion.specs.declared.Conversion.{Conversion}
 use Rattle.conversion.specs.Answers.{answered}
@@ -21,7 +21,7 @@ pub record TableDue (t : List ℤ) (n : ℕ) (headings : List ℕ) (pool : List 
   pub cleared : headings ≡ filled (length headings) 0 []
   pub in-table : 6 * n ≤ length t
   pub at-most : n ≤ entryLimit
-  pub has-headings : 3 * n ≤ length headings
+  pub has-headings : headingLength * n ≤ length headings
   pub in-pool : length pool ≤ poolLimit
 
 -- the answer and both lists, of h heading numbers and p cells, are those of the outcome o

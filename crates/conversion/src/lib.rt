@@ -4,8 +4,9 @@ ghost use mathlib.Core.Path.{_≡_};
 ghost use mathlib.Core.List.{List, [], _++_};
 ghost use Prim.Native.Nat.{_-_, _/_, _≤_};
 ghost use lib.ListN.{length, take, replicate};
+ghost use Rattle.calendar.specs.Limits.{headingLength};
 ghost use Rattle.calendar.specs.Meaning.{Row, empty};
-ghost use Rattle.calendar.specs.Table.{entries, outcome};
+ghost use Rattle.calendar.specs.Outcome.{entries, outcome};
 ghost use Rattle.calendar.specs.Stored.{filled, poolAfter, headingsAfter};
 ghost use Rattle.row_entry.specs.Stores.{Stores, EntryDue, Entered};
 ghost use Rattle.conversion.specs.Answers.{answered};
@@ -101,9 +102,9 @@ fn convert_entries(table: &[i32], n: usize, headings: &mut [u32], pool: &mut [i3
 // every number of a heading is zero. Refuses 1, 2 and 3 for the lists, with entry 0, and 4 to 12 for the first entry that calls for it. Costs time in proportion to span and
 // working period of each entry, and to its row for each divisor that is tried; no memory.
 pub fn convert(table: &[i32], headings: &mut [u32], pool: &mut [i32]) -> Conversion
-    ensures answer { λ r. ⌜ r ≡ answered (outcome (now (table .entry)) (length (now (headings .entry)) / 3) (length (now (pool .entry)))) ⌝ }
-    ensures headings { λ r. ⌜ now (headings .exit) ≡ headingsAfter (length (now (headings .entry))) (outcome (now (table .entry)) (length (now (headings .entry)) / 3) (length (now (pool .entry)))) ⌝ }
-    ensures pool { λ r. ⌜ now (pool .exit) ≡ poolAfter (length (now (pool .entry))) (outcome (now (table .entry)) (length (now (headings .entry)) / 3) (length (now (pool .entry)))) ⌝ }
+    ensures answer { λ r. ⌜ r ≡ answered (outcome (now (table .entry)) (length (now (headings .entry)) / headingLength) (length (now (pool .entry)))) ⌝ }
+    ensures headings { λ r. ⌜ now (headings .exit) ≡ headingsAfter (length (now (headings .entry))) (outcome (now (table .entry)) (length (now (headings .entry)) / headingLength) (length (now (pool .entry)))) ⌝ }
+    ensures pool { λ r. ⌜ now (pool .exit) ≡ poolAfter (length (now (pool .entry))) (outcome (now (table .entry)) (length (now (headings .entry)) / headingLength) (length (now (pool .entry)))) ⌝ }
 {
     clear_headings(&mut *headings);
     let begun = entries::begin(table, headings.len() / HEADING_LENGTH, pool.len());

@@ -15,7 +15,7 @@ use Rattle.integers.proofs.Linear.{ints, _∴_}
 use Rattle.integers.proofs.Machine.{test-not-lt}
 use Rattle.calendar.specs.Meaning.{labelOf, isEmpty, empty}
 use Rattle.calendar.specs.Lists.{equal, distinct}
-use Rattle.calendar.specs.Checks.{labelsOf}
+use Rattle.calendar.specs.Sound.{labelsOf}
 use Rattle.granules.proofs.Tests.{equal-iff, false-iff, leZ-iff, ltZ-iff, some-inj, none≢some}
 use Rattle.granules.proofs.Lists.{prefix}
 use Rattle.granules.proofs.Rows.{labels-cons, labels-skip}

@@ -17,11 +17,12 @@ use Rattle.integers.proofs.Linear.{ints, _∴_}
 use Rattle.integers.proofs.Machine.{test-not-lt}
 use Rattle.integers.proofs.Order.{pos-up, mul-mono, Cases, cases}
 use Rattle.integers.proofs.Order.Cases.{below, equal, above}
+use Rattle.calendar.specs.Limits.{poolLimit}
 use Rattle.calendar.specs.Meaning.{Calendar, Row, meant, Has, labelOf, isEmpty, empty}
 use Rattle.calendar.specs.Algebra.{Rising, Lists}
 use Rattle.calendar.specs.Lists.{keep, from, distinct}
 use Rattle.calendar.specs.Granules.{granules}
-use Rattle.calendar.specs.Checks.{labelsOf}
+use Rattle.calendar.specs.Sound.{labelsOf}
 use Rattle.calendar.specs.Questions.{given}
 use Rattle.granules.specs.Valid.{Valid}
 use Rattle.granules.proofs.Tests.{true≢false, decided, equal-iff, ltZ-iff, none-or-some}
@@ -220,9 +221,9 @@ module _ (period distance : ℤ) (cells : List ℤ) (s : Sound period distance c
       λ m. g (counts .1 ∙ (range .0 next (turn-cells next .0 (turn-lists .member next .1 m)) .1 ∴ last-bound ∴ simp ints (omega arith))) in
       omega (arith, parts .1 out, window-length, turn-length)
 
-  pub rises-few : rises f l ≤ 1048576
+  pub rises-few : rises f l ≤ poolLimit
   rises-few = by (decided (equal-iff (greatest f l) next))
     where
-      by : (greatest f l ≡ f +ℤ pos (up distance)) ⊎ (greatest f l ≡ f +ℤ pos (up distance) → ⊥) → rises f l ≤ 1048576
+      by : (greatest f l ≡ f +ℤ pos (up distance)) ⊎ (greatest f l ≡ f +ℤ pos (up distance) → ⊥) → rises f l ≤ poolLimit
       by (inl e) = omega (arith, granules-wrapped e, granules-at-most row, n .middle, n .high)
       by (inr g) = omega (arith, granules-apart g, granules-at-most row, n .middle, n .high)

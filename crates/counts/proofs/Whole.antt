@@ -15,7 +15,7 @@ use lib.Seq.{drop-cons}
 use Rattle.integers.proofs.Linear.{ints, _∴_}
 use Rattle.calendar.specs.Meaning.{labelOf, isEmpty, empty}
 use Rattle.calendar.specs.Lists.{equal}
-use Rattle.calendar.specs.Checks.{labelsOf}
+use Rattle.calendar.specs.Sound.{labelsOf}
 use Rattle.granules.proofs.Tests.{equal-iff, false-iff, leZ-iff, ltZ-iff, some-inj, none≢some}
 use Rattle.granules.proofs.Equal.{cell-cases}
 use Rattle.granules.proofs.Rows.{labels-cons, labels-skip}

@@ -6,7 +6,7 @@ ghost use Prim.Native.Nat.{_<_};
 ghost use lib.ListN.{length, getD, drop};
 ghost use Rattle.calendar.specs.Meaning.{empty};
 ghost use Rattle.calendar.specs.Granules as G;
-ghost use Rattle.calendar.specs.Checks as C;
+ghost use Rattle.calendar.specs.Sound as S;
 ghost use Rattle.calendar.specs.Questions.{given};
 ghost use Rattle.cursors.specs.Found.{Sound};
 ghost use Rattle.cursors.specs.Search.{leading};
@@ -94,7 +94,7 @@ pub fn granules(cells: &[i32], period: i64, distance: i64) -> i64
 
 // How many instants of a turn have a label.
 pub fn labelled_instants(cells: &[i32]) -> i64
-    ensures { λ r. ⌜ r ≡ pos (length (C.labelsOf (now (cells .entry)))) ⌝ }
+    ensures { λ r. ⌜ r ≡ pos (length (S.labelsOf (now (cells .entry)))) ⌝ }
 {
     let mut count: usize = 0;
     let mut i = 0;

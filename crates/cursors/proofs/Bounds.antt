@@ -16,7 +16,8 @@ use Rattle.integers.proofs.Linear.{ints, _∴_}
 use Rattle.calendar.specs.Meaning.{Row, meant, labelOf, empty}
 use Rattle.calendar.specs.Lists.{first, last}
 use Rattle.calendar.specs.Granules.{granule}
-use Rattle.calendar.specs.Checks.{inRange, labelsOf}
+use Rattle.calendar.specs.Limits.{inRange}
+use Rattle.calendar.specs.Sound.{labelsOf}
 use Rattle.calendar.specs.Questions.{given}
 use Rattle.granules.specs.Valid.{Valid}
 use Rattle.granules.proofs.Tests.{and-iff, leZ-iff}
@@ -62,7 +63,7 @@ module _ (period distance : ℤ) (cells : List ℤ) (s : Sound period distance c
 
   -- the label of an instant within ±B is within ±B of those
   pub label-bound : (B : ℕ) (u j : ℤ) → negℤ (pos B) ≤ℤ u → u ≤ℤ pos B → meant (given period distance cells) u ≡ some j
-      → (negℤ (pos (B + 1001048576)) ≤ℤ j) × (j ≤ℤ pos (B + 1000000000))
+      → (negℤ (pos (B + 1004194304)) ≤ℤ j) × (j ≤ℤ pos (B + 1000000000))
   label-bound B u j lo hi e =
       let n = numbers period distance cells s in
       let P = up period in

@@ -14,6 +14,7 @@ use Rattle.integers.specs.Floor.{floorDiv, floorMod}
 use Rattle.integers.proofs.Linear.{ints, _∴_}
 use Rattle.integers.proofs.Order.{pos-up}
 use Rattle.integers.proofs.Floor.{floor-eq, floor-lt, floor-unique}
+use Rattle.calendar.specs.Limits.{poolLimit}
 use Rattle.calendar.specs.Meaning.{Row, meant, raise, labelOf, empty}
 use Rattle.calendar.specs.Questions.{given}
 use Rattle.cursors.specs.declared.Cursor.{Cursor}
@@ -87,10 +88,10 @@ module _ (period distance : ℤ) (cells : List ℤ) (s : Sound period distance c
       let a = cursor-at row c u e in
       let m = floor-lt P above u in
       let b = rise-bound P (up distance) (2 ^ 60) above (n .middle) u (near .0) (near .1) in
-      let small : P ≤ 1048576 = n .high in
+      let small : P ≤ poolLimit = n .high in
       let low : negℤ (pos (2 ^ 61)) ≤ℤ c .rise = a .rise-is ∴ b ∴ simp ints (omega arith) in
       let high : c .rise ≤ℤ pos (2 ^ 61) = a .rise-is ∴ b ∴ simp ints (omega arith) in
-      let few : up distance ≤ 1048576 = omega (arith, n .middle) in
+      let few : up distance ≤ poolLimit = omega (arith, n .middle) in
       record {
         low = a .index-is ∴ simp ints (omega arith);
         high = a .index-is ∴ n .period-is ∴ m ∴ simp ints (omega arith);
@@ -116,7 +117,7 @@ module _ (period distance : ℤ) (cells : List ℤ) (s : Sound period distance c
       let above : 0 < P = omega (arith, n .low, n .middle) in
       let e = floor-eq P above t in
       let m = floor-lt P above t in
-      let small : P ≤ 1048576 = n .high in
+      let small : P ≤ poolLimit = n .high in
       let p : q *ℤ period ≡ pos P *ℤ q = ap (λ (z : ℤ). q *ℤ z) (n .period-is) ∙ *ℤ-comm q (pos P) in
       let d : q *ℤ distance ≡ pos (up distance) *ℤ q = ap (λ (z : ℤ). q *ℤ z) (n .distance-is) ∙ *ℤ-comm q (pos (up distance)) in
       let b = rise-bound P (up distance) (2 ^ 60) above (n .middle) t (near .0) (near .1) in

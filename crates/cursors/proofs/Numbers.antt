@@ -15,6 +15,7 @@ use Rattle.integers.specs.Parts.{up}
 use Rattle.integers.specs.Floor.{floorDiv, floorMod}
 use Rattle.integers.proofs.Linear.{ints, _∴_}
 use Rattle.integers.proofs.Floor.{floor-eq, floor-lt}
+use Rattle.calendar.specs.Limits.{poolLimit}
 use Rattle.calendar.specs.Questions.{given}
 use Rattle.granules.specs.Valid.{Valid}
 use Rattle.granules.proofs.Sound.{sound-valid, sound-limits}
@@ -27,7 +28,7 @@ pub record Numbers (period distance : ℤ) (cells : List ℤ) : Type 0 where
   pub whole : length cells ≡ up period
   pub low : 1 ≤ up distance
   pub middle : up distance ≤ up period
-  pub high : up period ≤ 1048576
+  pub high : up period ≤ poolLimit
 
 is-up : (z : ℤ) → 1 ≤ up z → z ≡ pos (up z)
 is-up (pos n) h = refl

@@ -7,7 +7,7 @@ use lib.IntN.{ℤ, pos, negℤ}
 use lib.Signed.{_≤ℤ_}
 use mathlib.Core.List.{List}
 use Rattle.calendar.specs.Meaning.{Row, meant}
-use Rattle.calendar.specs.Checks.{sound}
+use Rattle.calendar.specs.Sound.{sound}
 use Rattle.calendar.specs.Questions.{given}
 use Rattle.cursors.specs.declared.Found.{Found}
 use Rattle.cursors.specs.declared.Found.the-variants.{At, Nothing}

@@ -19,7 +19,7 @@ entryOf e = record { kind = e .kind; first = e .first; second = e .second; x = e
 
 -- a kind by its number. Beyond the last it is that of bottom, which check 4 keeps from being seen
 abbrev pub kindOf : ℕ → Table.Kind
-kindOf n = getD Table.kinds n Table.none
+kindOf n = getD Table.kinds n Table.noOperand
 
 -- check 5, where a kind names n operands: each is one of the k entries before
 abbrev pub operandsEarlier : ℕ → ℕ → Table.Entry → Bool

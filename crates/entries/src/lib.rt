@@ -4,20 +4,16 @@ ghost use mathlib.Core.Path.{_≡_};
 ghost use mathlib.Core.Bool.{_&&_};
 ghost use Prim.Native.Nat.{_+_, _*_, _<_};
 ghost use lib.ListN.{length};
-ghost use Rattle.calendar.specs.Checks as Checks;
+ghost use Rattle.calendar.specs.Limits as Limits;
 ghost use Rattle.calendar.specs.Table as Table;
 ghost use Rattle.entries.specs.Entries.{entryOf, kindOf, operandsEarlier, othersZero, reading, begun};
 use calendar::Calendar;
+use calendar::ENTRY_LIMIT;
+use calendar::POOL_LIMIT;
 use calendar::Refusal;
 
 // How many numbers an entry has.
 pub const ENTRY_LENGTH: usize = 6;
-
-// The most entries that a table has.
-pub const ENTRY_LIMIT: usize = 32;
-
-// The longest pool, in cells.
-pub const POOL_LIMIT: usize = 1048576;
 
 // Kinds are 0 to 12.
 const LAST_KIND: i32 = 12;
@@ -55,7 +51,7 @@ pub fn entry_at(table: &[i32], k: usize) -> Entry
 
 // Whether z is low to high.
 fn between(low: i32, high: i32, z: i32) -> bool
-    ensures { λ r. ⌜ r ≡ Checks.between low high z ⌝ }
+    ensures { λ r. ⌜ r ≡ Limits.between low high z ⌝ }
 {
     low <= z && z <= high
 }

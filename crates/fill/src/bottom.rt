@@ -1,6 +1,5 @@
 // Bottom: one cell, whose label is 0.
 
-ghost use Rattle.calendar.specs.Compute.{working};
 ghost use Rattle.kinds.specs.declared.Kind.the-variants.{Bottom};
 ghost use Rattle.fill_shared.specs.Placed.{Placed, over, Fills};
 use calendar::Calendar;

@@ -26,7 +26,15 @@ pub fn fill(
     match kind {
         Kind::Group(x) => fill_unary::grouping::fill_group(x, span, at, period, pool, a, b),
         Kind::Shift(x) => fill_unary::shifting::fill_shift(x, span, at, period, pool, a, b),
-        Kind::Renumber(x) => fill_unary::renumbering::fill_renumber(x, span, at, period, pool, a, b),
+        Kind::Renumber(x) => fill_unary::renumbering::fill_renumber(
+            x,
+            span,
+            at,
+            period,
+            pool,
+            a,
+            b,
+        ),
         Kind::Alter(by) => fill_alter::fill_alter(by, span, at, period, pool, a, b),
         Kind::Combine => combining::fill_combine(span, at, period, pool, a, b),
         Kind::Anchor => anchoring::fill_anchor(span, at, period, pool, a, b),

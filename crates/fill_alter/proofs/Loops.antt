@@ -12,7 +12,8 @@ use lib.Seq.{getD-take, getD-drop}
 use Rattle.integers.proofs.Linear.{ints}
 use Rattle.calendar.specs.Meaning.{Row, meant, empty}
 use Rattle.calendar.specs.Compute.{result}
-use Rattle.calendar.specs.Checks.{unlabelled, labelsInRange, inRange}
+use Rattle.calendar.specs.Checks.{unlabelled, labelsInRange}
+use Rattle.calendar.specs.Limits.{inRange}
 use Rattle.granules.proofs.Tests.{true≢false, false-iff}
 use Rattle.algebra.proofs.Right.{right}
 use Rattle.algebra.proofs.Working.{unlabelled-iff}

@@ -13,7 +13,7 @@ use Rattle.calendar.specs.Meaning.{Row}
 use Rattle.calendar.specs.Operation.{mapOperation}
 use Rattle.calendar.specs.Size as Size
 use Rattle.calendar.specs.Size.{turn, spanOf}
-use Rattle.calendar.specs.Table.{million}
+use Rattle.calendar.specs.Limits.{million}
 use Rattle.calendar.specs.Questions.{given}
 use Rattle.cursors.specs.Found.{Sound}
 use Rattle.cursors.proofs.Numbers.{numbers}

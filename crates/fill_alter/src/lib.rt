@@ -13,15 +13,15 @@ ghost use Rattle.kinds.specs.Operations.{operationOf};
 ghost use Rattle.kinds.specs.Stands.{rowIn};
 ghost use Rattle.fill_shared.specs.Given.{Given};
 ghost use Rattle.fill_shared.specs.Placed.{Placed, over, Fills};
-use kinds::Alteration;
 use alter_granules::Repeat;
 use calendar::Calendar;
 use fill_shared::Filled;
 use fill_shared::end_of;
-use kinds::Operand;
-use sizes::Turn;
 use fill_stretches::fill_leading;
 use fill_stretches::fill_stretch;
+use kinds::Alteration;
+use kinds::Operand;
+use sizes::Turn;
 
 // Document 01's n and D.
 fn repeat_of(

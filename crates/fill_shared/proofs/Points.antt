@@ -9,7 +9,7 @@ use lib.IntN.{ℤ, pos, _+ℤ_}
 use lib.Signed.{_≤ℤ_, _<ℤ_}
 use Rattle.integers.proofs.Linear.{ints, _∴_}
 use Rattle.calendar.specs.Meaning.{meant}
-use Rattle.calendar.specs.Checks.{poolLimit}
+use Rattle.calendar.specs.Limits.{poolLimit}
 use Rattle.calendar.specs.Questions.{given}
 use Rattle.cursors.specs.Found.{Sound, Within, Near}
 use Rattle.cursors.proofs.Bounds.{label-bound}

@@ -12,7 +12,8 @@ use Rattle.calendar.specs.Meaning.{Row}
 use Rattle.calendar.specs.Operation.Operation.{bottom}
 use Rattle.calendar.specs.Size.{turn, spanOf}
 use Rattle.calendar.specs.Compute.{result}
-use Rattle.calendar.specs.Checks.{sound, poolLimit}
+use Rattle.calendar.specs.Sound.{sound}
+use Rattle.calendar.specs.Limits.{poolLimit}
 use Rattle.granules.proofs.Sound.{sound-valid, sound-limits}
 use Rattle.kinds.specs.declared.Kind.{Kind}
 use Rattle.kinds.specs.declared.Kind.the-variants.{Bottom, Group, Shift, Alter, Combine, Anchor, Select, ByLabels, Renumber}

@@ -11,7 +11,7 @@ use mir.Syntax.{w64}
 use mir.Val.{toZ}
 use Rattle.calendar.specs.Meaning.{Row}
 use Rattle.calendar.specs.Compute.{result}
-use Rattle.calendar.specs.Checks.{poolLimit}
+use Rattle.calendar.specs.Limits.{poolLimit}
 use Rattle.kinds.specs.declared.Kind.{Kind}
 use Rattle.kinds.specs.Operations.{operationOf}
 use Rattle.fill_shared.specs.Given.{Given}

@@ -17,9 +17,10 @@ use Rattle.integers.proofs.Linear.{ints}
 use Rattle.calendar.specs.Meaning.{Row}
 use Rattle.calendar.specs.Operation.{Operation}
 use Rattle.calendar.specs.Lists.{isSome, ifLabel}
-use Rattle.calendar.specs.Size.{size}
+use Rattle.calendar.specs.Distance.{size}
 use Rattle.calendar.specs.Compute.{result, working, cellOf}
-use Rattle.calendar.specs.Checks.{inRange, labelsInRange, poolLimit}
+use Rattle.calendar.specs.Checks.{labelsInRange}
+use Rattle.calendar.specs.Limits.{inRange, poolLimit}
 use Rattle.calendar.specs.Questions.{given}
 use Rattle.granules.proofs.Tests.{true≢false}
 use Rattle.kinds.specs.declared.Kind.{Kind}
@@ -104,7 +105,7 @@ module _ (k : Kind) (a b : Lent) (at period : ℕ) (old : List ℤ) where
       before-end = omega (arith, h .lends .is-period)
 
       -- the cell of the instant is one of the pool
-      pub turn-index : (at + t < length new) × (length new ≤ 1048576)
+      pub turn-index : (at + t < length new) × (length new ≤ poolLimit)
       turn-index = let e = turn-length in (omega (arith, h .lends .room), omega (arith, h .lends .few))
 
       -- the instant as an `i64`

@@ -17,12 +17,13 @@ use Rattle.integers.specs.Parts.{up}
 use Rattle.integers.proofs.Linear.{ints, _∴_}
 use Rattle.integers.proofs.Order.{pos-up}
 use Rattle.calendar.specs.Meaning.{Row, labelOf, empty}
-use Rattle.calendar.specs.Operation.{Operation, mapOperation}
+use Rattle.calendar.specs.Operation.{Operation}
 use Rattle.calendar.specs.Lists.{from, isSome, ifLabel}
 use Rattle.calendar.specs.Size as Size
-use Rattle.calendar.specs.Size.{turn, size}
+use Rattle.calendar.specs.Distance.{size}
 use Rattle.calendar.specs.Compute.{result, working, cellOf}
-use Rattle.calendar.specs.Checks.{throughout, unlabelled, labelsInRange, inRange, poolLimit}
+use Rattle.calendar.specs.Checks.{throughout, unlabelled, labelsInRange}
+use Rattle.calendar.specs.Limits.{inRange, poolLimit}
 use Rattle.granules.proofs.Tests.{true-or-false, true≢false, or-iff, not-iff, false-iff, ltb-iff, decided}
 use Rattle.granules.proofs.Lists.{all-iff, mem-from, length-from}
 use Rattle.algebra.proofs.Working.{getD-map-from, inRange-iff}

@@ -8,7 +8,7 @@ use Rattle.calendar.specs.Meaning.{Row, labelOf, empty}
 use Rattle.calendar.specs.Operation.{Operation}
 use Rattle.calendar.specs.Size.{turn, spanOf}
 use Rattle.calendar.specs.Compute.{result}
-use Rattle.calendar.specs.Checks.{poolLimit}
+use Rattle.calendar.specs.Limits.{poolLimit}
 use Rattle.algebra.specs.Ready.{Ready}
 use Rattle.kinds.specs.declared.Kind.{Kind}
 use Rattle.kinds.specs.Operations.{operationOf, operands, Numbers, SoundFirst}

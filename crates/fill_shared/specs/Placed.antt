@@ -9,9 +9,11 @@ use lib.ListN.{length, take, drop}
 use Rattle.calendar.specs.Meaning.{Row}
 use Rattle.calendar.specs.Operation.{Operation, mapOperation}
 use Rattle.calendar.specs.Size as Size
-use Rattle.calendar.specs.Size.{turn, size}
+use Rattle.calendar.specs.Size.{turn}
+use Rattle.calendar.specs.Distance.{size}
 use Rattle.calendar.specs.Compute.{working}
-use Rattle.calendar.specs.Checks.{unlabelled, labelsInRange, poolLimit}
+use Rattle.calendar.specs.Checks.{unlabelled, labelsInRange}
+use Rattle.calendar.specs.Limits.{poolLimit}
 use Rattle.kinds.specs.declared.Kind.{Kind}
 use Rattle.kinds.specs.declared.Operand.{Operand}
 use Rattle.kinds.specs.Operations.{operationOf}

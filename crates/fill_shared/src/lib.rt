@@ -8,14 +8,14 @@ ghost use lib.Signed.{_≤ℤ_, leZ};
 ghost use lib.ListN.{length, set};
 ghost use Rattle.calendar.specs.Lists.{isSome, ifLabel};
 ghost use Rattle.calendar.specs.Compute.{cellOf, anchored};
-ghost use Rattle.calendar.specs.Checks.{inRange};
+ghost use Rattle.calendar.specs.Limits.{inRange};
 ghost use Rattle.calendar.specs.Questions.{given};
 ghost use Rattle.cursors.specs.Found.{found, Sound};
 ghost use Rattle.kinds.specs.Stands.{end};
 ghost use Rattle.fill_shared.specs.declared.Filled.the-variants.{Labelled, Unlabelled};
 use calendar::Calendar;
-use kinds::Operand;
 use cursors::Found;
+use kinds::Operand;
 
 // What the labels of a working row are.
 pub enum Filled {

@@ -14,7 +14,8 @@ use Rattle.calendar.specs.Meaning.{Row, meant}
 use Rattle.calendar.specs.Operation.{Operation}
 use Rattle.calendar.specs.Lists.{isSome, ifLabel}
 use Rattle.calendar.specs.Compute.{result, cellOf}
-use Rattle.calendar.specs.Checks.{inRange, sound}
+use Rattle.calendar.specs.Limits.{inRange}
+use Rattle.calendar.specs.Sound.{sound}
 use Rattle.kinds.specs.declared.Kind.{Kind}
 use Rattle.kinds.specs.Operations.{operationOf}
 use Rattle.fill_shared.proofs.Working.{range-fits}

@@ -18,7 +18,7 @@ use Rattle.calendar.specs.Operation.{Operation}
 use Rattle.calendar.specs.Lists.{isSome, ifLabel, first}
 use Rattle.calendar.specs.Granules.{granule}
 use Rattle.calendar.specs.Compute.{result, cellOf}
-use Rattle.calendar.specs.Checks.{inRange}
+use Rattle.calendar.specs.Limits.{inRange}
 use Rattle.granules.specs.Valid.{Valid}
 use Rattle.granule_ends.proofs.Walks.{first-is}
 use Rattle.kinds.specs.declared.Kind.{Kind}

@@ -4,7 +4,7 @@ ghost use mathlib.Core.Path.{_≡_};
 ghost use mathlib.Core.Bool.{true};
 ghost use Rattle.calendar.specs.Lists.{ifLabel};
 ghost use Rattle.calendar.specs.Compute.{cellOf};
-ghost use Rattle.calendar.specs.Checks.{inRange};
+ghost use Rattle.calendar.specs.Limits.{inRange};
 ghost use Rattle.cursors.specs.Found.{found};
 ghost use Rattle.fill_stretches.specs.Stretch.{rowFrom, Room, Follows, Stretched, Led};
 use calendar::Calendar;

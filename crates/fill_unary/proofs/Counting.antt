@@ -13,7 +13,7 @@ use Rattle.integers.proofs.Linear.{ints, _∴_}
 use Rattle.calendar.specs.Meaning.{Row, meant}
 use Rattle.calendar.specs.Operation.Unary.{renumber}
 use Rattle.calendar.specs.Operation.Operation.{unary}
-use Rattle.calendar.specs.Checks.{poolLimit}
+use Rattle.calendar.specs.Limits.{poolLimit}
 use Rattle.calendar.specs.Compute.{renumbered, anchored, result}
 use Rattle.calendar.specs.Questions.{given}
 use Rattle.granules.specs.Valid.{Valid}

@@ -12,7 +12,7 @@ use Rattle.integers.proofs.Linear.{ints, _∴_}
 use Rattle.integers.proofs.Order.{pos-up}
 use Rattle.calendar.specs.Meaning.{Row, Has}
 use Rattle.calendar.specs.Lists.{isSome}
-use Rattle.calendar.specs.Size.{size}
+use Rattle.calendar.specs.Distance.{size}
 use Rattle.calendar.specs.Compute.{result}
 use Rattle.granules.proofs.Calendars.{labelled-near}
 use Rattle.granules.proofs.Sound.{sound-valid}

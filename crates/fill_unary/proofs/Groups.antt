@@ -16,7 +16,7 @@ use Rattle.integers.proofs.Floor.{floor-lt, ceil-eq, ceil-unique}
 use Rattle.calendar.specs.Meaning.{Row, meant}
 use Rattle.calendar.specs.Operation.Unary.{group}
 use Rattle.calendar.specs.Operation.Operation.{unary}
-use Rattle.calendar.specs.Table.{million}
+use Rattle.calendar.specs.Limits.{million}
 use Rattle.calendar.specs.Compute.{result}
 use Rattle.cursors.specs.Found.{Within}
 

@@ -115,7 +115,7 @@ module _ (period distance : ℤ) (cells : List ℤ) (s : Sound period distance c
       let v = valid period distance cells s in
       labelled-near (meant row) (up period) (up distance) (meant-repeats row (v .positive .0)) (v .positive .0) (v .label) (v .labelled) u
 
-  pub latest-bound : pos 0 ≤ℤ t → t ≤ℤ pos (2 ^ 20) → Within (2 ^ 30) p
+  pub latest-bound : pos 0 ≤ℤ t → t ≤ℤ pos (2 ^ 22) → Within (2 ^ 30) p
   latest-bound lo hi =
       let v = valid period distance cells s in
       let n = numbers period distance cells s in
@@ -123,6 +123,6 @@ module _ (period distance : ℤ) (cells : List ℤ) (s : Sound period distance c
       let (w, j, c, d, f) = near t in
       let low = l .most u i (b ∴ simp ints (omega arith)) e in
       let high = v .ordered (l .at) w p j (l .before ∴ c ∴ simp ints (omega arith)) (l .label) f in
-      let x = label-bound period distance cells s (2 ^ 21) u i (a ∴ lo ∴ n .high ∴ simp ints (omega arith)) (b ∴ hi ∴ simp ints (omega arith)) e in
-      let y = label-bound period distance cells s (2 ^ 21) w j (c ∴ lo ∴ simp ints (omega arith)) (d ∴ hi ∴ n .high ∴ simp ints (omega arith)) f in
+      let x = label-bound period distance cells s (2 ^ 23) u i (a ∴ lo ∴ n .high ∴ simp ints (omega arith)) (b ∴ hi ∴ simp ints (omega arith)) e in
+      let y = label-bound period distance cells s (2 ^ 23) w j (c ∴ lo ∴ simp ints (omega arith)) (d ∴ hi ∴ n .high ∴ simp ints (omega arith)) f in
       x ∴ y ∴ low ∴ high ∴ simp ints (omega arith)

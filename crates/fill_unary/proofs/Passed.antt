@@ -82,7 +82,7 @@ module _ {x last period distance : ℤ} {cells : List ℤ} (o : Over x last peri
       -- a cell above p has a label
       cell-label : p <ℤ z → meant row (pos i) ≡ some z
       cell-label h =
-          let near : i ≤ 2 ^ 20 = omega (arith, b .whole, b .high) in
+          let near : i ≤ 2 ^ 22 = omega (arith, b .whole, b .high) in
           let w = latest-bound period distance cells (o .sound) (pos i) p (d .latest) (simp ints (omega arith)) (near ∴ simp ints (omega arith)) in
           cell-is ∙ label-full z (λ e. e ∴ h ∴ w ∴ simp ints (omega arith))
 

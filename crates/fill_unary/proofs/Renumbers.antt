@@ -17,9 +17,9 @@ use Rattle.calendar.specs.Operation.{Operation}
 use Rattle.calendar.specs.Operation.Unary.{renumber}
 use Rattle.calendar.specs.Operation.Operation.{unary}
 use Rattle.calendar.specs.Lists.{isSome, ifLabel}
-use Rattle.calendar.specs.Size.{size}
+use Rattle.calendar.specs.Distance.{size}
 use Rattle.calendar.specs.Compute.{renumbered, cellOf}
-use Rattle.calendar.specs.Checks.{inRange, poolLimit}
+use Rattle.calendar.specs.Limits.{inRange, poolLimit}
 use Rattle.granules.specs.Valid.{Valid}
 use Rattle.cursors.proofs.Numbers.{numbers, valid}
 use Rattle.kinds.specs.declared.Kind.the-variants.{Renumber}
@@ -63,7 +63,7 @@ module _ {x : ℤ} {a : Lent} {at period : ℕ} {old new : List ℤ} {last numbe
         omega (arith, whole, simp length-take at e)
 
     -- the cells that a turn reads and writes
-    pub renumbers-index : (a .start + t < length new) × ((at + t < length new) × (length new ≤ 1048576))
+    pub renumbers-index : (a .start + t < length new) × ((at + t < length new) × (length new ≤ poolLimit))
     renumbers-index =
         let i = turn-index (Renumber x) a a at period old new (h .labelled) t (h .turn) m in
         let e = turn-ends (Renumber x) a a at period old new (h .labelled) t (h .turn) .0 in

@@ -17,9 +17,11 @@ use Rattle.calendar.specs.Operation.{Operation}
 use Rattle.calendar.specs.Operation.Unary.{shift}
 use Rattle.calendar.specs.Operation.Operation.{unary}
 use Rattle.calendar.specs.Lists.{isSome, ifLabel}
-use Rattle.calendar.specs.Size.{size}
+use Rattle.calendar.specs.Distance.{size}
 use Rattle.calendar.specs.Compute.{result, working, cellOf}
-use Rattle.calendar.specs.Checks.{sound, inRange, labelsInRange, poolLimit}
+use Rattle.calendar.specs.Checks.{labelsInRange}
+use Rattle.calendar.specs.Sound.{sound}
+use Rattle.calendar.specs.Limits.{inRange, poolLimit}
 use Rattle.granules.proofs.Tests.{true-or-false, true≢false, ltb-iff, decided}
 use Rattle.granules.proofs.Rows.{meant-cell}
 use Rattle.granules.proofs.Sound.{sound-valid}
@@ -29,10 +31,9 @@ use Rattle.cursors.proofs.Bounds.{cell-bound}
 use Rattle.kinds.specs.declared.Operand.{Operand}
 use Rattle.kinds.specs.Stands.{end, rowIn}
 use Rattle.fill_shared.specs.declared.Filled.the-variants.{Labelled, OutOfRange}
-use Rattle.fill_shared.specs.Placed.{filledAs}
+use Rattle.fill_shared.specs.Placed.{filledAs, Fills}
 use Rattle.fill_shared.proofs.Cells.{row-kept}
 use Rattle.fill_shared.proofs.Working.{Writes, working-length, working-at, writes-labelled, writes-all, out-of-range, filled-out}
-use Rattle.fill_shared.specs.Placed.{Fills}
 use Rattle.fill_unary.proofs.Instants.{label-at, labelled-first}
 
 -- the label of an instant
@@ -105,7 +106,7 @@ module _ {x : ℤ} {a : Operand} {at period : ℕ} {old : List ℤ} (s : Shifts 
 
     module _ (m : t < period) where
       -- the cells that a turn reads and writes
-      pub shifted-index : (a .start + t < length new) × ((at + t < length new) × (length new ≤ 1048576))
+      pub shifted-index : (a .start + t < length new) × ((at + t < length new) × (length new ≤ poolLimit))
       shifted-index =
           let e = shifted-length in
           (omega (arith, s .room, s .a-end, s .is-period), (omega (arith, s .room), omega (arith, s .few)))

@@ -19,9 +19,10 @@ use Rattle.integers.proofs.Linear.{ints, _∴_}
 use Rattle.calendar.specs.Meaning.{Row, meant, empty}
 use Rattle.calendar.specs.Operation.{Operation}
 use Rattle.calendar.specs.Lists.{isSome, ifLabel}
-use Rattle.calendar.specs.Size.{size}
+use Rattle.calendar.specs.Distance.{size}
 use Rattle.calendar.specs.Compute.{result, cellOf}
-use Rattle.calendar.specs.Checks.{inRange, sound}
+use Rattle.calendar.specs.Limits.{inRange, poolLimit}
+use Rattle.calendar.specs.Sound.{sound}
 use Rattle.granules.proofs.Tests.{true≢false, ltb-iff, decided}
 use Rattle.cursors.proofs.Cursors.{cursor-at}
 use Rattle.algebra.proofs.Pointwise.{group-period}
@@ -127,7 +128,7 @@ module _ (x : ℤ) (a : Lent) (at period : ℕ) (old new : List ℤ) (labelled :
 
   pub turn-small : Small z (a .start) (a .end - a .start) new
   turn-small i m j e =
-      let b : t + i ≤ 1048576 = omega (arith, h .lends .room, h .lends .few) in
+      let b : t + i ≤ poolLimit = omega (arith, h .lends .room, h .lends .few) in
       label-small (a .period) (a .distance) (row .cells) s (pos (t + i)) j (simp ints (omega arith)) (simp ints (omega arith)) (label-is i m ∙ e)
 
   turn-on : (n : ℕ) → n ≤ a .end - a .start → ((i : ℕ) → i < n → ifLabel (groupAt x z (a .start) new i) inRange ≡ true)

@@ -12,7 +12,7 @@ use Rattle.integers.specs.Floor.{ceilDiv}
 use Rattle.calendar.specs.Meaning.{raise, labelOf, empty}
 use Rattle.calendar.specs.Lists.{ifLabel}
 use Rattle.calendar.specs.Compute.{cellOf}
-use Rattle.calendar.specs.Checks.{inRange}
+use Rattle.calendar.specs.Limits.{inRange}
 use Rattle.cursors.specs.Found.{Within}
 use Rattle.fill_shared.specs.declared.Known.{Known}
 

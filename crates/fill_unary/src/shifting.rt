@@ -7,7 +7,7 @@ ghost use Prim.Native.Nat.{_+_};
 ghost use lib.IntN.{ℤ};
 ghost use Rattle.calendar.specs.Meaning.{labelOf, raise};
 ghost use Rattle.calendar.specs.Lists.{ifLabel};
-ghost use Rattle.calendar.specs.Checks.{inRange};
+ghost use Rattle.calendar.specs.Limits.{inRange};
 ghost use Rattle.cursors.specs.Found.{Within};
 ghost use Rattle.kinds.specs.declared.Kind.the-variants.{Shift};
 ghost use Rattle.kinds.specs.Stands.{rowIn};

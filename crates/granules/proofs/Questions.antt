@@ -15,7 +15,7 @@ use Rattle.calendar.specs.Meaning.{Row, meant, Has, Inside, labelOf, empty, rai
 use Rattle.calendar.specs.Algebra.{Rising}
 use Rattle.calendar.specs.Lists.{any, keep, from, first, last, is, isSome}
 use Rattle.calendar.specs.Granules.{granule, inside, within}
-use Rattle.calendar.specs.Questions.{holder, madeUp, labelledInstants, extent}
+use Rattle.calendar.specs.Questions.{holder, madeUp, labelledInstants, granuleLength}
 use Rattle.granules.specs.Valid.{Valid}
 use Rattle.granules.proofs.Tests.{some-inj, none≢some, none-or-some, is-iff}
 use Rattle.granules.proofs.Lists.{all-iff, any-iff, first-least, last-greatest}
@@ -127,15 +127,15 @@ labelled-window r v s =
     ∙ count-same f (λ z. isSome (labelOf z)) (r .cells) (pos 0)
     (λ k p. ap f (simp ints (omega arith)) ∙ ap isSome (meant-cell r k (omega (arith, v .whole))))
 
--- ---- the extent of a granule
+-- ---- the length of a granule
 
 -- "The slot's length is last instant − first instant + 1."
-pub extent-iff : (r : Row) → Valid r → (z : ℤ) → Has (meant r) z
+pub length-iff : (r : Row) → Valid r → (z : ℤ) → Has (meant r) z
     → (f : ℤ) × (l : ℤ) × (meant r f ≡ some z) × (meant r l ≡ some z)
     × ((u : ℤ) → meant r u ≡ some z → (f ≤ℤ u) × (u ≤ℤ l))
-    × (pos (extent r z) ≡ l -ℤ f +ℤ pos 1)
-unfolding extent
-extent-iff r v z h = (
+    × (pos (granuleLength r z) ≡ l -ℤ f +ℤ pos 1)
+unfolding granuleLength
+length-iff r v z h = (
   first (granule r z),
   last (granule r z),
   first-labelled r v z h,
@@ -144,14 +144,14 @@ extent-iff r v z h = (
   pos-up {z = last (granule r z) -ℤ first (granule r z) +ℤ pos 1} (first-at-most r v z (last (granule r z)) (last-labelled r v z h) ∴ simp ints (omega arith)),
 )
 
-pub extent-positive : (r : Row) → Valid r → (z : ℤ) → Has (meant r) z → 1 ≤ extent r z
-extent-positive r v z h =
-    let x = extent-iff r v z h in
+pub length-positive : (r : Row) → Valid r → (z : ℤ) → Has (meant r) z → 1 ≤ granuleLength r z
+length-positive r v z h =
+    let x = length-iff r v z h in
     let l = x .4 (x .1) (x .3) .0 in
     omega (arith, simp ints at (x .5), simp ints at l)
 
-pub extent-at-most : (r : Row) → Valid r → (z : ℤ) → Has (meant r) z → extent r z ≤ r .period
-extent-at-most r v z h =
-    let x = extent-iff r v z h in
+pub length-at-most : (r : Row) → Valid r → (z : ℤ) → Has (meant r) z → granuleLength r z ≤ r .period
+length-at-most r v z h =
+    let x = length-iff r v z h in
     let n = granule-near (meant r) (r .period) (r .distance) (meant-repeats r (v .positive .0)) (v .positive .1) (v .ordered) (x .0) (x .1) z (x .2) (x .3) in
     omega (arith, simp ints at (x .5), simp ints at n)

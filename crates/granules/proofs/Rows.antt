@@ -13,7 +13,7 @@ use Rattle.integers.specs.Floor.{floorDiv, floorMod}
 use Rattle.integers.proofs.Floor.{floor-unique, floorDiv-shift, floorMod-shift}
 use Rattle.calendar.specs.Meaning.{Row, meant, Calendar, Same, Repeats, IsCalendar, LeastRow, labelOf, isEmpty, empty, raise}
 use Rattle.calendar.specs.Lists.{isSome}
-use Rattle.calendar.specs.Checks.{labelsOf}
+use Rattle.calendar.specs.Sound.{labelsOf}
 use Rattle.granules.specs.Valid.{Valid}
 use Rattle.granules.proofs.Tests.{some-inj, none≢some, isSome-iff}
 use Rattle.granules.proofs.Lists.{mem-keep}

@@ -17,7 +17,8 @@ use Rattle.integers.specs.Floor.{floorDiv, floorMod}
 use Rattle.integers.proofs.Floor.{floor-eq, floor-mono}
 use Rattle.calendar.specs.Meaning.{Row, meant, Ordered, labelOf, empty, raise}
 use Rattle.calendar.specs.Lists.{first}
-use Rattle.calendar.specs.Checks.{sound, cellsInRange, labelsOf, neverFalls, poolLimit}
+use Rattle.calendar.specs.Sound.{sound, cellsInRange, labelsOf, neverFalls}
+use Rattle.calendar.specs.Limits.{poolLimit}
 use Rattle.granules.specs.Valid.{Valid}
 use Rattle.granules.proofs.Tests.{true≢false, and-iff, not-iff, false-iff, eqb-iff, leb-iff, leZ-iff, some-inj, none≢some, none-or-some}
 use Rattle.granules.proofs.Rows.{cellLabel, meant-repeats, meant-some, cell-meant, labels-mem, mem-labels, label-index, labels-cons, labels-skip}

@@ -10,14 +10,14 @@ use lib.Dec.{eqb, leb}
 use lib.IntN.{ℤ}
 use lib.ListN.{length, getD, drop, replicate, replicate-append-replicate}
 use Rattle.calendar.specs.Meaning.{Row}
-use Rattle.calendar.specs.Checks.{poolLimit}
+use Rattle.calendar.specs.Limits.{poolLimit, entryLimit, headingLength}
 use Rattle.calendar.specs.Reply.{Reply, require}
 use Rattle.calendar.specs.Reply.Reply.{answer}
-use Rattle.calendar.specs.Table.{Outcome, entryLimit, outcome}
-use Rattle.calendar.specs.Table.Outcome.{refusedAt, rows}
+use Rattle.calendar.specs.Outcome.{Outcome, outcome}
+use Rattle.calendar.specs.Outcome.Outcome.{refusedAt, rows}
 use Rattle.calendar.specs.Stored.{filled, headingsFrom, headingsAfter}
 use Rattle.granules.proofs.Tests.{and-iff, leb-iff}
-use Rattle.algebra.specs.Represents.{Agrees}
+use Rattle.algebra.specs.Agrees.{Agrees}
 use Rattle.algebra.specs.TableMeaning.TableReply.{means}
 use Rattle.algebra.proofs.Demand2.{demand-2-only, represents-length}
 use Rattle.algebra.proofs.Steps.{afterTable, outcome-is}
@@ -31,7 +31,7 @@ use Rattle.headings.specs.Records.{recordsFrom, noHeading, recordsAfter,
 
 -- ---- how many headings are lent
 
--- check 2 asks for no more than 32 headings: check 1 comes first
+-- check 2 asks for no more headings than a table has entries at most: check 1 comes first
 require-few : (b : Bool) (k n : ℕ) (r : Reply ℕ) → (b ≡ true → k ≤ entryLimit) → entryLimit ≤ n
     → require 1 b (require 2 (leb k entryLimit) r) ≡ require 1 b (require 2 (leb k n) r)
 require-few true k n r h l = ap (λ (c : Bool). require 2 c r) (leb-iff k entryLimit .1 (h refl) ∙ sym (leb-iff k n .1 (omega (arith, h refl))))
@@ -78,13 +78,13 @@ filled-on k n d l h b =
     ∙ replicate-append-replicate (k - length l) (n - k) d
     ∙ ap (λ (i : ℕ). replicate i d) e)
 
-numbers-on : (o : Outcome) (m : ℕ) → Headed m o → m ≤ entryLimit → headingsAfter (3 * m) o ++ drop (3 * m) (replicate 96 0) ≡ headingsAfter 96 o
+numbers-on : (o : Outcome) (m : ℕ) → Headed m o → m ≤ entryLimit → headingsAfter (headingLength * m) o ++ drop (headingLength * m) (replicate (headingLength * entryLimit) 0) ≡ headingsAfter (headingLength * entryLimit) o
 unfolding headingsAfter
-numbers-on (refusedAt n k) m h b = filled-on (3 * m) 96 0 [] (omega arith) (omega arith)
-numbers-on (rows l) m h b = filled-on (3 * m) 96 0 (headingsFrom 0 l) (omega (arith, headings-length 0 l, h l refl)) (omega arith)
+numbers-on (refusedAt n k) m h b = filled-on (headingLength * m) (headingLength * entryLimit) 0 [] (omega arith) (omega arith)
+numbers-on (rows l) m h b = filled-on (headingLength * m) (headingLength * entryLimit) 0 (headingsFrom 0 l) (omega (arith, headings-length 0 l, h l refl)) (omega arith)
 
 pub outcome-numbers : (t : List ℤ) (m p : ℕ) → m ≤ entryLimit
-    → headingsAfter (3 * m) (outcome t m p) ++ drop (3 * m) (replicate 96 0) ≡ headingsAfter 96 (outcome t m p)
+    → headingsAfter (headingLength * m) (outcome t m p) ++ drop (headingLength * m) (replicate (headingLength * entryLimit) 0) ≡ headingsAfter (headingLength * entryLimit) (outcome t m p)
 outcome-numbers t m p = numbers-on (outcome t m p) m (outcome-headed t m p)
 
 -- ---- records
@@ -110,8 +110,8 @@ number-behind a b c l i j e =
 
 record-behind : (a b c : ℕ) (l : List ℕ) (k : ℕ) → recordAt (a ∷ b ∷ c ∷ l) (suc k) ≡ recordAt l k
 record-behind a b c l k =
-    record-ext (number-behind a b c l (3 * suc k) (3 * k) (omega arith)) (number-behind a b c l (3 * suc k + 1) (3 * k + 1) (omega arith))
-    (number-behind a b c l (3 * suc k + 2) (3 * k + 2) (omega arith))
+    record-ext (number-behind a b c l (headingLength * suc k) (headingLength * k) (omega arith)) (number-behind a b c l (headingLength * suc k + 1) (headingLength * k + 1) (omega arith))
+    (number-behind a b c l (headingLength * suc k + 2) (headingLength * k + 2) (omega arith))
 
 records-from : (l : List Row) (s : ℕ) (behind : List ℕ) (n : ℕ) → length l ≤ n
     → recordsOf (headingsFrom s l ++ behind) n ≡ recordsFrom s l ++ recordsOf behind (n - length l)
@@ -134,18 +134,18 @@ zero-records : (k n : ℕ) → recordsOf (replicate k 0) n ≡ replicate n noHea
 zero-records k n =
     tabled-ext (recordAt (replicate k 0)) (λ i. noHeading) (λ i. record-ext (zero-at k _) (zero-at k _) (zero-at k _)) n ∙ tabled-alike noHeading n
 
-numbers-records : (o : Outcome) (n : ℕ) → Headed n o → recordsOf (headingsAfter 96 o) n ≡ recordsAfter n o
+numbers-records : (o : Outcome) (n : ℕ) → Headed n o → recordsOf (headingsAfter (headingLength * entryLimit) o) n ≡ recordsAfter n o
 unfolding headingsAfter recordsAfter
-numbers-records (refusedAt m k) n h = zero-records 96 n ∙ ap (λ (i : ℕ). replicate i noHeading) (sym (sub-zero n))
+numbers-records (refusedAt m k) n h = zero-records (headingLength * entryLimit) n ∙ ap (λ (i : ℕ). replicate i noHeading) (sym (sub-zero n))
 numbers-records (rows l) n h =
-    records-from l 0 (replicate (96 - length (headingsFrom 0 l)) 0) n (h l refl)
+    records-from l 0 (replicate (headingLength * entryLimit - length (headingsFrom 0 l)) 0) n (h l refl)
     ∙ ap (λ (x : List Heading). recordsFrom 0 l ++ x)
-    (zero-records (96 - length (headingsFrom 0 l)) (n - length l) ∙ ap (λ (i : ℕ). replicate (n - i) noHeading) (sym (records-length 0 l)))
+    (zero-records (headingLength * entryLimit - length (headingsFrom 0 l)) (n - length l) ∙ ap (λ (i : ℕ). replicate (n - i) noHeading) (sym (records-length 0 l)))
   where
     records-length : (s : ℕ) (l : List Row) → length (recordsFrom s l) ≡ length l
     records-length s [] = refl
     records-length s (r ∷ l) = ap suc (records-length (s + r .period) l)
 
 -- the records of the numbers are those that the conversion is to leave
-pub outcome-records : (t : List ℤ) (n p : ℕ) → recordsOf (headingsAfter 96 (outcome t n p)) n ≡ recordsAfter n (outcome t n p)
+pub outcome-records : (t : List ℤ) (n p : ℕ) → recordsOf (headingsAfter (headingLength * entryLimit) (outcome t n p)) n ≡ recordsAfter n (outcome t n p)
 outcome-records t n p = numbers-records (outcome t n p) n (outcome-headed t n p)

@@ -2,15 +2,14 @@
 
 ghost use mathlib.Core.Path.{_≡_};
 ghost use lib.ListN.{length};
-ghost use Rattle.calendar.specs.Table.{outcome};
+ghost use Rattle.calendar.specs.Limits.{entryLimit, headingLength};
+ghost use Rattle.calendar.specs.Outcome.{outcome};
 ghost use Rattle.calendar.specs.Stored.{poolAfter, headingsAfter};
 ghost use Rattle.conversion.specs.Answers.{answered};
 ghost use Rattle.headings.specs.Records.{recordAt, recordsOf, recordsAfter};
+use calendar::ENTRY_LIMIT;
 use conversion::Conversion;
 use conversion::HEADING_LENGTH;
-
-// How many entries a table has at most.
-const ENTRY_LIMIT: usize = 32;
 
 // The heading of an entry: where its row starts in the pool, and its period and distance.
 pub struct Heading {
@@ -19,19 +18,19 @@ pub struct Heading {
     pub distance: u32,
 }
 
-// A conversion by value: its answer, and three numbers for each of 32 entries.
+// A conversion by value: its answer, and three numbers for each entry that a table may have.
 struct Made {
     answer: Conversion,
-    plain: [u32; 96],
+    plain: [u32; HEADING_LENGTH * ENTRY_LIMIT],
 }
 
 // Converts a table for which so many headings are lent.
 fn convert_made(table: &[i32], lent: usize, pool: &mut [i32]) -> Made
     ensures { λ r. ⌜ (r .answer ≡ answered (outcome (now (table .entry)) lent (length (now (pool .entry)))))
-        × (r .plain ≡ headingsAfter 96 (outcome (now (table .entry)) lent (length (now (pool .entry)))))
+        × (r .plain ≡ headingsAfter (headingLength * entryLimit) (outcome (now (table .entry)) lent (length (now (pool .entry)))))
         × (now (pool .exit) ≡ poolAfter (length (now (pool .entry))) (outcome (now (table .entry)) lent (length (now (pool .entry))))) ⌝ }
 {
-    let mut plain = [0; 96];
+    let mut plain = [0; HEADING_LENGTH * ENTRY_LIMIT];
     let entries = if lent < ENTRY_LIMIT {
         lent
     } else {

@@ -3,7 +3,7 @@ use mathlib.Core.Path.{_≡_}
 use lib.IntN.{ℤ, pos}
 use lib.Signed.{_≤ℤ_}
 use Rattle.calendar.specs.Meaning.{Row}
-use Rattle.calendar.specs.Checks.{poolLimit}
+use Rattle.calendar.specs.Limits.{poolLimit}
 use Rattle.cursors.specs.Cursor.{cursorAt}
 use Rattle.joining.specs.declared.Joining.{Joining}
 

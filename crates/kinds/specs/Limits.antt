@@ -1,8 +1,8 @@
 -- The limits of the numbers of a kind.
 use mathlib.Core.Path.{_≡_}
-use lib.IntN.{ℤ, pos, negℤ}
+use lib.IntN.{pos, negℤ}
 use lib.Signed.{_≤ℤ_}
-use Rattle.calendar.specs.Table.{million}
+use Rattle.calendar.specs.Limits.{million}
 use Rattle.kinds.specs.declared.Alteration.{Alteration}
 use Rattle.kinds.specs.declared.Pick.{Pick}
 use Rattle.kinds.specs.declared.Selection.{Selection}

@@ -2,7 +2,7 @@
 use mathlib.Core.Path.{_≡_}
 use mathlib.Core.Bool.{true}
 use Prim.Native.Nat.{ℕ, zero, suc}
-use lib.IntN.{ℤ, pos, negℤ}
+use lib.IntN.{pos, negℤ}
 use lib.Signed.{_≤ℤ_}
 use Rattle.integers.specs.Parts.{up}
 use Rattle.calendar.specs.Operation as O
@@ -11,8 +11,8 @@ use Rattle.calendar.specs.Operation.Binary.{alter, combine, anchor, select, by-
 use Rattle.calendar.specs.Operation.SetOperation.{union, intersection, difference}
 use Rattle.calendar.specs.Operation.Operation.{bottom, unary, binary}
 use Rattle.calendar.specs.Meaning.{Row}
-use Rattle.calendar.specs.Checks.{sound, limit}
-use Rattle.calendar.specs.Table.{million}
+use Rattle.calendar.specs.Sound.{sound}
+use Rattle.calendar.specs.Limits.{labelLimit, million}
 use Rattle.kinds.specs.Limits.{Limits, Picking}
 use Rattle.kinds.specs.declared.Selection.{Selection}
 use Rattle.kinds.specs.declared.Selection.the-variants.{Down, Up, Intersecting}
@@ -48,13 +48,13 @@ operationOf (Renumber x) a b = unary (renumber x) a
 abbrev pub Numbers : Kind → Type 0
 Numbers Bottom = Unit {0}
 Numbers (Group x) = (pos 1 ≤ℤ x) × (x ≤ℤ million)
-Numbers (Shift x) = (negℤ limit ≤ℤ x) × (x ≤ℤ limit)
+Numbers (Shift x) = (negℤ labelLimit ≤ℤ x) × (x ≤ℤ labelLimit)
 Numbers (Alter w) = Limits w
 Numbers Combine = Unit {0}
 Numbers Anchor = Unit {0}
 Numbers (Select s) = Picking s
 Numbers (ByLabels s) = Unit {0}
-Numbers (Renumber x) = (negℤ limit ≤ℤ x) × (x ≤ℤ limit)
+Numbers (Renumber x) = (negℤ labelLimit ≤ℤ x) × (x ≤ℤ labelLimit)
 
 -- how many operands the kind names; one that names one is given it twice
 abbrev pub operands : Kind → ℕ

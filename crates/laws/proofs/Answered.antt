@@ -6,11 +6,12 @@ use native.Mathlib.Omega.{arith}
 use lib.IntN.{ℤ}
 use lib.ListN.{length, getD}
 use Rattle.calendar.specs.Meaning.{Row}
-use Rattle.calendar.specs.Table.{outcome}
-use Rattle.calendar.specs.Table.Outcome.{rows}
+use Rattle.calendar.specs.Outcome.{outcome}
+use Rattle.calendar.specs.Outcome.Outcome.{rows}
 use Rattle.algebra.specs.TableMeaning.{Meant, nothing, TableReply, TableMeans}
 use Rattle.algebra.specs.TableMeaning.TableReply.{refusedAt, means}
-use Rattle.algebra.specs.Represents.{Represents, RepresentsAll, Agrees}
+use Rattle.algebra.specs.Represents.{Represents}
+use Rattle.algebra.specs.Agrees.{RepresentsAll, Agrees}
 use Rattle.algebra.proofs.Demand2.{demand-2, demand-2-only, represents-length, represents-at}
 use Rattle.laws.specs.Matches.{rowAt}
 use Rattle.laws.specs.Answered.{Answered}

@@ -5,8 +5,8 @@ use Prim.Native.Nat.{ℕ}
 use native.Mathlib.Omega.{arith}
 use lib.IntN.{ℤ, pos, negsuc}
 use lib.ListN.{replicate}
-use Rattle.calendar.specs.Meaning.{Row, empty}
-use Rattle.calendar.specs.Table.{named, bottomRow}
+use Rattle.calendar.specs.Meaning.{Row, empty, bottomRow}
+use Rattle.calendar.specs.Table.{named}
 use Rattle.calendar.specs.Worked.{entry, businessDays, renumberedDays, grouped, oddAndEven, labels, framed, oneToFive}
 use Rattle.laws.specs.Laws.{Law}
 use Rattle.laws.specs.Matches.{EqualRows}

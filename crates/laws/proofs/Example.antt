@@ -7,8 +7,8 @@ use native.Mathlib.Omega.{arith}
 use lib.IntN.{ℤ}
 use lib.ListN.{length, getD, getElem?}
 use Rattle.calendar.specs.Meaning.{Row, Calendar, Same}
-use Rattle.calendar.specs.Table.{outcome, Outcome}
-use Rattle.calendar.specs.Table.Outcome.{refusedAt, rows}
+use Rattle.calendar.specs.Outcome.{outcome, Outcome}
+use Rattle.calendar.specs.Outcome.Outcome.{refusedAt, rows}
 use Rattle.laws.specs.Terms.{Term}
 use Rattle.laws.specs.Laws.{Law}
 use Rattle.laws.specs.Matches.{calendarAt, EqualRows, rowAt}

@@ -4,8 +4,8 @@ use mathlib.Core.List.{List}
 use Prim.Native.Nat.{ℕ}
 use lib.IntN.{ℤ}
 use Rattle.calendar.specs.Meaning.{Row}
-use Rattle.calendar.specs.Table.{outcome}
-use Rattle.calendar.specs.Table.Outcome.{rows}
+use Rattle.calendar.specs.Outcome.{outcome}
+use Rattle.calendar.specs.Outcome.Outcome.{rows}
 use Rattle.algebra.specs.TableMeaning.{Meant, TableMeans}
 use Rattle.algebra.specs.TableMeaning.TableReply.{means}
 

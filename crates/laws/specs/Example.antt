@@ -5,9 +5,10 @@ use mathlib.Core.List.{List, [], _∷_, map}
 use Prim.Native.Nat.{ℕ, _<_}
 use lib.IntN.{ℤ}
 use lib.ListN.{length, getD, getElem?}
+use Rattle.calendar.specs.Limits.{entryLimit}
 use Rattle.calendar.specs.Meaning.{Row, Calendar, Same}
-use Rattle.calendar.specs.Table.{outcome}
-use Rattle.calendar.specs.Table.Outcome.{refusedAt, rows}
+use Rattle.calendar.specs.Outcome.{outcome}
+use Rattle.calendar.specs.Outcome.Outcome.{refusedAt, rows}
 use Rattle.algebra.specs.TableMeaning.{Meant}
 use Rattle.laws.specs.Terms.{Term}
 use Rattle.laws.specs.Laws.{Law}
@@ -16,7 +17,7 @@ use Rattle.laws.specs.Answered.{Answered}
 
 -- headings and cells that are enough for each example
 abbrev pub exampleHeadings : ℕ
-exampleHeadings = 32
+exampleHeadings = entryLimit
 
 abbrev pub examplePool : ℕ
 examplePool = 200

@@ -6,10 +6,10 @@ use mathlib.Core.List.{List}
 use Prim.Native.Nat.{ℕ}
 use lib.IntN.{ℤ}
 use lib.ListN.{getD}
-use Rattle.calendar.specs.Meaning.{Row, Calendar, Same}
+use Rattle.calendar.specs.Meaning.{Row, Calendar, Same, bottomRow}
 use Rattle.calendar.specs.Operation.{Operation}
 use Rattle.calendar.specs.Reply.Reply.{answer}
-use Rattle.calendar.specs.Table.{entryAt, named, bottomRow}
+use Rattle.calendar.specs.Table.{entryAt, named}
 use Rattle.algebra.specs.TableMeaning.{Meant, nothing}
 use Rattle.laws.specs.Terms.{Term}
 use Rattle.laws.specs.Terms.Term.{operand, bottom, unary, binary}

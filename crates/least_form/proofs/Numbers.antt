@@ -7,7 +7,8 @@ use Prim.Native.Nat.{_≤_}
 use native.Mathlib.Omega.{arith}
 use lib.IntN.{ℤ, pos, negsuc}
 use Rattle.integers.specs.Parts.{up}
-use Rattle.calendar.specs.Checks.{sound}
+use Rattle.calendar.specs.Limits.{poolLimit}
+use Rattle.calendar.specs.Sound.{sound}
 use Rattle.calendar.specs.Questions.{given}
 use Rattle.granules.proofs.Sound.{sound-valid, sound-limits}
 
@@ -17,7 +18,7 @@ pub record Numbers (period distance : ℤ) : Type 0 where
   pub distance-is : distance ≡ pos (up distance)
   pub low : 1 ≤ up distance
   pub middle : up distance ≤ up period
-  pub high : up period ≤ 1048576
+  pub high : up period ≤ poolLimit
 
 is-up : (z : ℤ) → 1 ≤ up z → z ≡ pos (up z)
 is-up (pos n) h = refl

@@ -3,7 +3,7 @@ use mathlib.Core.Path.{_≡_}
 use mathlib.Core.Bool.{true}
 use mathlib.Core.List.{List}
 use lib.IntN.{ℤ, pos}
-use Rattle.calendar.specs.Checks.{sound}
+use Rattle.calendar.specs.Sound.{sound}
 use Rattle.calendar.specs.Questions.{given}
 use Rattle.calendar.specs.Least.{least}
 

@@ -10,7 +10,7 @@ ghost use lib.Signed.{_≤ℤ_};
 ghost use Rattle.integers.specs.Parts.{up};
 ghost use Rattle.calendar.specs.Meaning.{labelOf, raise};
 ghost use Rattle.calendar.specs.Lists.{sameLabel};
-ghost use Rattle.calendar.specs.Checks.{sound};
+ghost use Rattle.calendar.specs.Sound.{sound};
 ghost use Rattle.calendar.specs.Questions.{given};
 ghost use Rattle.calendar.specs.Least as L;
 ghost use Rattle.least_form.specs.Cells.{RepeatsWithin};

@@ -12,15 +12,14 @@ use Rattle.integers.specs.Parts.{up}
 use Rattle.integers.proofs.Linear.{ints}
 use Rattle.calendar.specs.Operation.{Operation}
 use Rattle.calendar.specs.Reply.Reply.{answer}
-use Rattle.calendar.specs.Checks.{between, limit}
-use Rattle.calendar.specs.Table.{Entry, million, zero?, earlier, named, factor, label, altering, picking}
+use Rattle.calendar.specs.Limits.{between, labelLimit, million}
+use Rattle.calendar.specs.Table.{Entry, zero?, earlier, named, factor, label, altering, picking}
 use Rattle.granules.proofs.Tests.{true≢false, and-iff, or-iff, not-iff, false-iff, leZ-iff, ltb-iff, leb-iff, equal-iff}
 use Rattle.algebra.proofs.Operations.{require-answer}
 use Rattle.algebra.proofs.Working.{inRange-iff}
 use Rattle.kinds.specs.declared.Pick.{Pick}
-use Rattle.kinds.specs.Limits.{PickLimits}
+use Rattle.kinds.specs.Limits.{PickLimits, Limits}
 use Rattle.kinds.specs.declared.Alteration.{Alteration}
-use Rattle.kinds.specs.Limits.{Limits}
 use Rattle.entries.specs.Entries.{kindOf}
 
 -- ---- the limits of the numbers
@@ -31,7 +30,7 @@ between-iff lo hi z e = let h = and-iff (leZ lo z) (leZ z hi) .0 e in (leZ-iff l
 pub factor-limits : (e : Entry) → factor e ≡ true → (pos 1 ≤ℤ e .x) × (e .x ≤ℤ million)
 factor-limits e h = between-iff (pos 1) million (e .x) (and-iff (between (pos 1) million (e .x)) _ .0 h .0)
 
-pub label-limits : (e : Entry) → label e ≡ true → (negℤ limit ≤ℤ e .x) × (e .x ≤ℤ limit)
+pub label-limits : (e : Entry) → label e ≡ true → (negℤ labelLimit ≤ℤ e .x) × (e .x ≤ℤ labelLimit)
 label-limits e h = inRange-iff (e .x) .0 (and-iff _ _ .0 h .0)
 
 pub altering-limits : (e : Entry) (w : Alteration) → w .x ≡ e .x → w .y ≡ e .y → w .z ≡ e .z → altering e ≡ true → Limits w

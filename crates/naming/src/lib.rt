@@ -8,12 +8,12 @@ ghost use Rattle.calendar.specs.Table.{named};
 ghost use Rattle.entries.specs.Entries.{entryOf};
 ghost use Rattle.kinds.specs.Operations.{operands};
 ghost use Rattle.naming.specs.Naming.{Passes, KindOf, secondOf, Names};
-use kinds::Alteration;
 use entries::Entry;
+use kinds::Alteration;
 use kinds::Kind;
-use kinds::SetOperation;
 use kinds::Pick;
 use kinds::Selection;
+use kinds::SetOperation;
 
 // An operation over the rows of earlier entries: its kind and its operands. A kind that names fewer than two is given the first one twice.
 pub struct Named {

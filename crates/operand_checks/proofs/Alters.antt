@@ -1,21 +1,21 @@
 -- The sizes of alter: its numbers are within the limits of `sizes`, and its working row fits 64 bits.
 -- Assumes nothing.
-use mathlib.Core.Path.{_≡_, ap}
-use Prim.Native.Nat.{ℕ, _≤_, _<_, _^_}
-use native.Mathlib.Nat.{div-le-self, le-trans, mul-le-mul}
+use mathlib.Core.Path.{_≡_, sym, ap, subst}
+use Prim.Native.Nat.{ℕ, _≤_}
 use native.Mathlib.Omega.{arith}
 use lib.IntN.{ℤ, pos}
 use lib.Signed.{_≤ℤ_}
 use mir.Syntax.{w64}
 use mir.Val.{SFits}
 use Rattle.integers.specs.Parts.{up}
-use Rattle.integers.specs.Gcd.{gcd}
 use Rattle.integers.proofs.Linear.{ints, _∴_}
 use Rattle.calendar.specs.Size as Size
 use Rattle.calendar.specs.Size.{spanOf}
-use Rattle.calendar.specs.Checks.{poolLimit}
-use Rattle.sizes.specs.Stored.{turnOf, Alterable, mostCoarse}
-use Rattle.sizes.specs.Altered.{rounds, alterDistance}
+use Rattle.calendar.specs.Limits.{poolLimit}
+use Rattle.sizes.specs.Stored.{turnOf, Alterable}
+use Rattle.sizes.specs.Altered.{rounds, alterPeriod, alterDistance}
+use Rattle.algebra.proofs.AlterSize.{distance-at-most}
+use Rattle.sizes.proofs.Altered.{alter-period-is}
 use Rattle.sizes.proofs.Multiples.{fine-limits}
 use Rattle.alignment.specs.Pass.{Limited}
 use Rattle.kinds.specs.declared.Alteration.{Alteration}
@@ -46,7 +46,7 @@ module _ {by : Alteration} {p n q m span : ℤ} (l : Limits by) (la : Limited p 
   pub fine-fits : SFits w64 (Size.fine (turnOf (turnFor p n)) (turnOf (turnFor q m)) (up (by .x)) (by .z))
   fine-fits = let f = fine-limits alterable in f .0 ∴ f .1 ∴ simp ints (omega arith)
 
--- r·n is below 2^63, as 1,048,576 · 4,194,304 · 1,000,000 is
-pub distance-half : (a : Size.Turn) (n : ℕ) (D : ℤ) → a .distance ≤ 1048576 → n ≤ mostCoarse → alterDistance a n D < 2 ^ 63
+-- r·n is at most the working period, as n ≤ D and Na ≤ Pa
+pub distance-short : (a : Size.Turn) (n : ℕ) (D : ℤ) → 1 ≤ up D → 1 ≤ a .distance → a .distance ≤ a .period → n ≤ up D → alterDistance a n D ≤ alterPeriod a D
 unfolding alterDistance rounds
-distance-half a n D h k = omega (arith, mul-le-mul (le-trans (div-le-self (a .distance) (gcd (up D) (a .distance))) h) k)
+distance-short a n D d N P h = subst (λ (p : ℕ). alterDistance a n D ≤ p) (sym (alter-period-is a D d N)) (distance-at-most (up D) (a .distance) d N n (a .period) h P)

@@ -14,7 +14,7 @@ use Rattle.calendar.specs.Operation.Binary.{alter}
 use Rattle.calendar.specs.Operation.Alignment.{partition}
 use Rattle.calendar.specs.Algebra.{Emptied}
 use Rattle.calendar.specs.Granules.{full}
-use Rattle.calendar.specs.Size.{turn, fine}
+use Rattle.calendar.specs.Size.{turn, fine, coarse}
 use Rattle.calendar.specs.Checks.{alignedAs, aligned, emptied}
 use Rattle.granules.specs.Valid.{Valid}
 use Rattle.granules.proofs.Tests.{false-iff}
@@ -47,8 +47,9 @@ module _ (x y : ℕ) (z : ℤ) (a b : Row) where
       kept : ¬ (Emptied (meaning altering))
       kept = false-iff (emptied-iff altering valid positive (known .full) (known .partition)) .0 passes
 
+      -- n ≤ D
+      pub fine-at-least : pos (coarse (turn a) (turn b) x) ≤ℤ fine (turn a) (turn b) x z
+      fine-at-least = rise-at-least (altered-tiling a b known x y z positive kept) (coarseOf x a b) (fineOf x z a b) (first-turn a b known x y z positive)
+
       pub fine-positive : pos 1 ≤ℤ fine (turn a) (turn b) x z
-      fine-positive =
-          rise-at-least (altered-tiling a b known x y z positive kept) (coarseOf x a b) (fineOf x z a b) (first-turn a b known x y z positive)
-          ∴ coarse-positive a b known x y z positive
-          ∴ simp ints (omega arith)
+      fine-positive = fine-at-least ∴ coarse-positive a b known x y z positive ∴ simp ints (omega arith)

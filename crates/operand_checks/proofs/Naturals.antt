@@ -11,6 +11,7 @@ use mir.Val.{Fits, SFits, ofZ, toZ}
 use Rattle.integers.specs.Parts.{up}
 use Rattle.integers.proofs.Linear.{ints, _∴_}
 use Rattle.integers.proofs.Machine.{plain}
+use Rattle.calendar.specs.Limits.{poolLimit}
 use Rattle.sizes.specs.Stored.{Stored}
 use Rattle.alignment.specs.Pass.{Limited}
 use Rattle.operand_checks.specs.Shared.{turnFor}
@@ -50,5 +51,5 @@ module _ {period distance : ℤ} (l : Limited period distance) where
     period-at-most = omega (arith, up-mono (l .high));
   }
 
-  pub distance-limit : up distance ≤ 1048576
+  pub distance-limit : up distance ≤ poolLimit
   distance-limit = omega (arith, up-mono (l .middle), up-mono (l .high))

@@ -12,7 +12,8 @@ use Rattle.calendar.specs.Operation.Binary.{alter, combine, anchor, select, by-
 use Rattle.calendar.specs.Operation.Operation.{bottom, unary, binary}
 use Rattle.calendar.specs.Operation.Alignment.{free, partition, subcalendar, compatible}
 use Rattle.calendar.specs.Granules.{granules, full}
-use Rattle.calendar.specs.Size.{turn, spanOf, span, size, alterTurn}
+use Rattle.calendar.specs.Size.{turn, spanOf, span, alterTurn}
+use Rattle.calendar.specs.Distance.{size}
 use Rattle.calendar.specs.Checks.{fullOperands, aligned, alignedAs, emptied}
 use Rattle.calendar.specs.Reply.{Reply, require}
 use Rattle.calendar.specs.Reply.Reply.{refused, answer}

@@ -14,6 +14,7 @@ use Rattle.integers.specs.Capped.{cappedAt}
 use Rattle.integers.specs.declared.Capped.the-variants.{Within, TooLong}
 use Rattle.integers.proofs.Linear.{ints, _∴_}
 use Rattle.integers.proofs.Cap.{within-is, too-long-is}
+use Rattle.calendar.specs.Limits.{poolLimit}
 use Rattle.calendar.specs.Meaning.{Row}
 use Rattle.calendar.specs.Size.{turn, spanOf}
 use Rattle.alignment.specs.Pass.{Spanned}
@@ -29,7 +30,7 @@ capped-passes cap n e = le-leb n cap (within-is e .1)
 
 -- a number within the room is no longer than a pool
 module _ {room : ℤ} (h : IsRoom room) (n : ℕ) {m : ℕ} (e : cappedAt (up room) n ≡ Within m) where
-  pub capped-limit : m ≤ 1048576
+  pub capped-limit : m ≤ poolLimit
   capped-limit = let w = within-is e in omega (arith, up-mono (h .1))
 
   pub capped-half : m < 2 ^ 63

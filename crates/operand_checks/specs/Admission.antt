@@ -5,7 +5,8 @@ use lib.Dec.{leb}
 use lib.IntN.{pos}
 use Rattle.calendar.specs.Meaning.{Row}
 use Rattle.calendar.specs.Operation.{Operation, mapOperation}
-use Rattle.calendar.specs.Size.{turn, span, size}
+use Rattle.calendar.specs.Size.{turn, span}
+use Rattle.calendar.specs.Distance.{size}
 use Rattle.calendar.specs.Checks.{fullOperands, aligned, emptied}
 use Rattle.calendar.specs.Reply.{Reply, require}
 use Rattle.calendar.specs.Reply.Reply.{refused, answer}

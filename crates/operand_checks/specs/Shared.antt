@@ -10,8 +10,10 @@ use Rattle.calendar.specs.Meaning.{Row}
 use Rattle.calendar.specs.Operation as O
 use Rattle.calendar.specs.Operation.Alignment.{free, subcalendar, compatible}
 use Rattle.calendar.specs.Size as Size
-use Rattle.calendar.specs.Size.{turn, spanOf, rise, size}
-use Rattle.calendar.specs.Checks.{alignedAs, aligned, emptied, poolLimit}
+use Rattle.calendar.specs.Size.{turn, spanOf, rise}
+use Rattle.calendar.specs.Distance.{size}
+use Rattle.calendar.specs.Checks.{alignedAs, aligned, emptied}
+use Rattle.calendar.specs.Limits.{poolLimit}
 use Rattle.calendar.specs.Reply.{Reply, require}
 use Rattle.calendar.specs.Reply.Reply.{answer}
 use Rattle.sizes.specs.declared.Turn.{Turn}

@@ -8,7 +8,7 @@ ghost use Rattle.integers.specs.Parts.{up};
 ghost use Rattle.calendar.specs.Size as Size;
 ghost use Rattle.calendar.specs.Size.{spanOf, alterTurn};
 ghost use Rattle.calendar.specs.Granules.{full};
-ghost use Rattle.calendar.specs.Checks.{poolLimit};
+ghost use Rattle.calendar.specs.Limits.{poolLimit};
 ghost use Rattle.calendar.specs.Questions.{given};
 ghost use Rattle.sizes.specs.Stored.{turnOf};
 ghost use Rattle.cursors.specs.Found.{Sound};
@@ -19,11 +19,11 @@ ghost use Rattle.operand_checks.specs.Admission.{admission, checkedOf};
 ghost use Rattle.operand_checks.specs.Shared.{IsRoom, turnFor, fitted, alterExtent, behindSpan};
 use super::Checked;
 use super::Extent;
-use kinds::Alteration;
 use calendar::Refusal;
 use integers::Capped;
+use kinds::Alteration;
 
-// 8 for the working period, once no granule is emptied: D is at least 1.
+// 8 for the working period, once no granule is emptied: D is at least 1, and at least n.
 fn sized(
     by: Alteration,
     room: i64,
@@ -40,6 +40,7 @@ fn sized(
     requires { ⌜ span ≡ pos (spanOf (turnOf (turnFor «a_period» «a_distance»)) (turnOf (turnFor «b_period» «b_distance»))) ⌝ }
     requires { ⌜ span ≤ℤ pos poolLimit ⌝ }
     requires { ⌜ pos 1 ≤ℤ Size.fine (turnOf (turnFor «a_period» «a_distance»)) (turnOf (turnFor «b_period» «b_distance»)) (up (by .x)) (by .z) ⌝ }
+    requires { ⌜ pos (Size.coarse (turnOf (turnFor «a_period» «a_distance»)) (turnOf (turnFor «b_period» «b_distance»)) (up (by .x))) ≤ℤ Size.fine (turnOf (turnFor «a_period» «a_distance»)) (turnOf (turnFor «b_period» «b_distance»)) (up (by .x)) (by .z) ⌝ }
     ensures { λ r. ⌜ r ≡ checkedOf (fitted (alterExtent span (alterTurn (turnOf (turnFor «a_period» «a_distance»)) (turnOf (turnFor «b_period» «b_distance»)) (up (by .x)) (by .z))) (up room)) ⌝ }
 {
     let a = super::spanning::turn_of(a_period, a_distance);

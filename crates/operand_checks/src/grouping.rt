@@ -7,7 +7,7 @@ ghost use Rattle.integers.specs.Parts.{up};
 ghost use Rattle.calendar.specs.Operation as O;
 ghost use Rattle.calendar.specs.Operation.Operation.{unary};
 ghost use Rattle.calendar.specs.Questions.{given};
-ghost use Rattle.calendar.specs.Table.{million};
+ghost use Rattle.calendar.specs.Limits.{million};
 ghost use Rattle.sizes.specs.Stored.{turnOf};
 ghost use Rattle.cursors.specs.Found.{Sound};
 ghost use Rattle.alignment.specs.Pass.{Limited};

@@ -5,7 +5,7 @@ ghost use lib.IntN.{pos};
 ghost use lib.Signed.{_≤ℤ_};
 ghost use Rattle.integers.specs.Parts.{up};
 ghost use Rattle.calendar.specs.Granules.{full};
-ghost use Rattle.calendar.specs.Checks.{poolLimit};
+ghost use Rattle.calendar.specs.Limits.{poolLimit};
 ghost use Rattle.calendar.specs.Questions.{given};
 ghost use Rattle.cursors.specs.Found.{Sound};
 ghost use Rattle.kinds.specs.Operations.{operationOf, operands, Numbers, SoundFirst};

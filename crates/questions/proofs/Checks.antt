@@ -12,7 +12,8 @@ use Rattle.calendar.specs.Meaning.{Row}
 use Rattle.calendar.specs.Reply.{Reply}
 use Rattle.calendar.specs.Reply.Reply.{refused, answer}
 use Rattle.calendar.specs.Granules.{has, within}
-use Rattle.calendar.specs.Checks.{sound, inRange}
+use Rattle.calendar.specs.Sound.{sound}
+use Rattle.calendar.specs.Limits.{inRange}
 use Rattle.calendar.specs.Questions.{madeUp, down}
 use Rattle.granules.proofs.Tests.{false-iff, leb-iff}
 use Rattle.parts.proofs.Shown.{Shows, shows-filled}

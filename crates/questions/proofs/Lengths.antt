@@ -1,5 +1,5 @@
 -- The length of a granule, and numbers that are cast to u64.
-use mathlib.Core.Path.{_≡_, sym, ap, subst}
+use mathlib.Core.Path.{_≡_, sym, subst}
 use mathlib.Core.Logic.{_↔_, Iff·rfl}
 use mathlib.Core.Bool.{true}
 use Prim.Native.Nat.{ℕ, _≤_, _<_, _^_}
@@ -15,16 +15,15 @@ use Rattle.integers.proofs.Order.{pos-up}
 use Rattle.calendar.specs.Meaning.{Row, meant, Has}
 use Rattle.calendar.specs.Lists.{first, last}
 use Rattle.calendar.specs.Granules.{granule}
-use Rattle.calendar.specs.Checks.{between}
-use Rattle.calendar.specs.Questions.{extent}
+use Rattle.calendar.specs.Limits.{between, lateLimit}
+use Rattle.calendar.specs.Questions.{granuleLength}
 use Rattle.granules.specs.Valid.{Valid}
 use Rattle.granules.proofs.Tests.{and-iff, leZ-iff}
 use Rattle.granules.proofs.Questions.{first-at-most, last-labelled}
-use Rattle.questions.specs.Answers.{lateLimit}
 
 -- last instant − first instant + 1
-pub length-is : (r : Row) → Valid r → (z : ℤ) → Has (meant r) z → (last (granule r z) -ℤ first (granule r z) +ℤ pos 1) ≡ pos (extent r z)
-unfolding extent
+pub length-is : (r : Row) → Valid r → (z : ℤ) → Has (meant r) z → (last (granule r z) -ℤ first (granule r z) +ℤ pos 1) ≡ pos (granuleLength r z)
+unfolding granuleLength
 length-is r v z h =
     sym (pos-up {z = last (granule r z) -ℤ first (granule r z) +ℤ pos 1} (first-at-most r v z (last (granule r z)) (last-labelled r v z h) ∴ simp ints (omega arith)))
 

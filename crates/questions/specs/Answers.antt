@@ -11,9 +11,10 @@ use Rattle.calendar.specs.Meaning.{Row}
 use Rattle.calendar.specs.Reply.{Reply, require}
 use Rattle.calendar.specs.Reply.Reply.{refused, answer}
 use Rattle.calendar.specs.Granules.{has, granules}
-use Rattle.calendar.specs.Checks.{between, inRange, sound}
+use Rattle.calendar.specs.Limits.{lateLimit, between, inRange}
+use Rattle.calendar.specs.Sound.{sound}
 use Rattle.calendar.specs.Stored.{filled}
-use Rattle.calendar.specs.Questions.{labelledInstants, extent}
+use Rattle.calendar.specs.Questions.{labelledInstants, granuleLength}
 use Rattle.calendar.specs.Refusals.{numberOf}
 use Rattle.floats.specs.Figures.{Shown}
 use Rattle.floats.specs.Allowance as F
@@ -47,10 +48,6 @@ abbrev pub FiguresOf : Row → Figured.Figured → Type 0
 FiguresOf r (Figured.the-variants.Are v) = (sound r ≡ true) × Shown (labelledInstants r) (r .period) (granules r) v
 FiguresOf r (Figured.the-variants.Refused x) = (sound r ≡ false) × (numberOf x ≡ 13)
 
--- "lateness outside 0 to 1,048,576"
-abbrev pub lateLimit : ℕ
-lateLimit = 1048576
-
 -- "may a delivery be d instants late on slot z?"
 unfoldable pub mayBeLate : Row → ℤ → ℤ → Allowance → Reply Bool
 mayBeLate r z d a =
@@ -58,7 +55,7 @@ mayBeLate r z d a =
     (require 14 (inRange z && between (pos 0) (pos lateLimit) d)
     (require 18 (F.isAllowed a)
     (require 15 (has r z)
-    (answer (F.mayBeLate (up d) (extent r z) a)))))
+    (answer (F.mayBeLate (up d) (granuleLength r z) a)))))
 
 abbrev pub lateReply : Late.Late → Reply Bool
 lateReply Late.the-variants.Allowed = answer true

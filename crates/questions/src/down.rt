@@ -8,8 +8,8 @@ ghost use Rattle.calendar.specs.Questions as Q;
 ghost use Rattle.questions.specs.Answers.{partsReply, counted, partsAfter};
 use calendar::Calendar;
 use calendar::Refusal;
-use parts::Walked;
 use cursors::Found;
+use parts::Walked;
 
 // How many parts there are.
 pub enum Parted {

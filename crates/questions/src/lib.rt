@@ -10,17 +10,18 @@ ghost use Rattle.calendar.specs.Meaning.{meant};
 ghost use Rattle.calendar.specs.Reply.{require};
 ghost use Rattle.calendar.specs.Reply.Reply.{answer};
 ghost use Rattle.calendar.specs.Granules.{has};
-ghost use Rattle.calendar.specs.Checks.{between};
+ghost use Rattle.calendar.specs.Limits.{between, lateLimit};
 ghost use Rattle.calendar.specs.Questions as Q;
 ghost use Rattle.calendar.specs.Questions.{given, upFromInstant, upFromGranule};
 ghost use Rattle.floats.specs.Allowance as F;
 ghost use Rattle.cursors.specs.Found.{Sound, Within, Labelled};
-ghost use Rattle.questions.specs.Answers.{upReply, FiguresOf, lateLimit, lateReply, mayBeLate};
+ghost use Rattle.questions.specs.Answers.{upReply, FiguresOf, lateReply, mayBeLate};
 use calendar::Calendar;
+use calendar::LATE_LIMIT;
 use calendar::Refusal;
+use cursors::Found;
 use floats::Allowance;
 use floats::Figures;
-use cursors::Found;
 
 pub mod down;
 
@@ -113,9 +114,6 @@ pub fn figures(cells: &[i32], period: i64, distance: i64) -> Figured
     Figured::Are(shown)
 }
 
-// The greatest lateness, in instants.
-const LATE_LIMIT: i64 = 1048576;
-
 // d may be a lateness.
 fn is_lateness(d: i64) -> bool
     ensures { λ r. ⌜ r ≡ between (pos 0) (pos lateLimit) d ⌝ }
@@ -124,10 +122,10 @@ fn is_lateness(d: i64) -> bool
 }
 
 // The length of the granule of t: last instant - first instant + 1.
-fn extent(cells: &[i32], period: i64, distance: i64, t: i64) -> u64
+fn granule_length(cells: &[i32], period: i64, distance: i64, t: i64) -> u64
     requires { ⌜ Sound period distance (now cells) ⌝ }
     requires { ⌜ Labelled (given period distance (now cells)) t ⌝ }
-    ensures { λ r. ⌜ ((j : ℤ) → meant (given period distance (now (cells .entry))) t ≡ some j → r ≡ Q.extent (given period distance (now (cells .entry))) j) ⌝ }
+    ensures { λ r. ⌜ ((j : ℤ) → meant (given period distance (now (cells .entry))) t ≡ some j → r ≡ Q.granuleLength (given period distance (now (cells .entry))) j) ⌝ }
 {
     let first = granule_ends::first_instant(cells, period, distance, t);
     let last = granule_ends::last_instant(cells, period, distance, t);
@@ -140,13 +138,13 @@ fn judged(z: i64, d: i64, allowance: Allowance, cells: &[i32], period: i64, dist
     requires { ⌜ Within 1000000000 z ⌝ }
     requires { ⌜ between (pos 0) (pos lateLimit) d ≡ true ⌝ }
     requires { ⌜ F.isAllowed allowance ≡ true ⌝ }
-    ensures { λ r. ⌜ lateReply r ≡ require 15 (has (given period distance (now (cells .entry))) z) (answer (F.mayBeLate (up d) (Q.extent (given period distance (now (cells .entry))) z) allowance)) ⌝ }
+    ensures { λ r. ⌜ lateReply r ≡ require 15 (has (given period distance (now (cells .entry))) z) (answer (F.mayBeLate (up d) (Q.granuleLength (given period distance (now (cells .entry))) z) allowance)) ⌝ }
 {
     let at = row_check::instant_of(cells, period, distance, z);
     let Found::At(t) = at else {
         return Late::Refused(Refusal::NotALabel);
     };
-    let length = extent(cells, period, distance, t);
+    let length = granule_length(cells, period, distance, t);
     if floats::may_be_late(d as u64, length, allowance) {
         Late::Allowed
     } else {

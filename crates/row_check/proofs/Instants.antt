@@ -16,6 +16,7 @@ use Rattle.integers.specs.Floor.{floorDiv, floorMod}
 use Rattle.integers.proofs.Linear.{ints, _∴_}
 use Rattle.integers.proofs.Order.{mul-mono}
 use Rattle.integers.proofs.Floor.{floor-eq, floor-lt}
+use Rattle.calendar.specs.Limits.{poolLimit}
 use Rattle.calendar.specs.Meaning.{Calendar, Row, meant, labelOf, isEmpty, empty}
 use Rattle.calendar.specs.Lists.{from, is, equal}
 use Rattle.calendar.specs.Granules.{firstLabel, firstWith, instantOf}
@@ -145,7 +146,7 @@ module _ (period distance : ℤ) (cells : List ℤ) (s : Sound period distance c
     pub whole-fits : SFits w64 (turns z *ℤ distance)
     pub cell-fits : SFits w32 (z -ℤ turns z *ℤ distance)
     pub rise-fits : SFits w64 (turns z *ℤ period)
-    pub within : (i : ℕ) → i < length cells → Within (2 ^ 52) (pos i +ℤ turns z *ℤ period)
+    pub within : (i : ℕ) → i < length cells → Within (2 ^ 54) (pos i +ℤ turns z *ℤ period)
     pub label : isEmpty (z -ℤ turns z *ℤ distance) ≡ false
 
   pub way : (z : ℤ) → Within 1000000000 z → Way z
@@ -156,17 +157,17 @@ module _ (period distance : ℤ) (cells : List ℤ) (s : Sound period distance c
       let q = turns z in
       let m = floorMod (z -ℤ f) N in
       let e = floor-eq N (n .low) (z -ℤ f) in
-      let small : m < 1048576 = omega (arith, floor-lt N (n .low) (z -ℤ f), n .middle, n .high) in
+      let small : m < poolLimit = omega (arith, floor-lt N (n .low) (z -ℤ f), n .middle, n .high) in
       let d : q *ℤ distance ≡ pos N *ℤ q = ap (λ (x : ℤ). q *ℤ x) (n .distance-is) ∙ *ℤ-comm q (pos N) in
       let p : q *ℤ period ≡ pos P *ℤ q = ap (λ (x : ℤ). q *ℤ x) (n .period-is) ∙ *ℤ-comm q (pos P) in
       let cell : z -ℤ q *ℤ distance ≡ f +ℤ pos m = rw d (e ∴ simp ints (omega arith)) in
       let low : (negsuc 1999999999) ≤ℤ (z -ℤ f) = b ∴ first-bound ∴ simp ints (omega arith) in
       let high : (z -ℤ f) ≤ℤ pos 2000000000 = b ∴ first-bound ∴ simp ints (omega arith) in
       let r = rise-bound N 1 2000000000 (n .low) (n .low) (z -ℤ f) low high in
-      let few : P ≤ 1048576 = n .high in
-      let q-low : negsuc 2001048575 ≤ℤ q = r ∴ n .middle ∴ few ∴ simp ints (omega arith) in
+      let few : P ≤ poolLimit = n .high in
+      let q-low : negsuc 2004194303 ≤ℤ q = r ∴ n .middle ∴ few ∴ simp ints (omega arith) in
       let q-high : q ≤ℤ pos 2000000000 = r ∴ simp ints (omega arith) in
-      let turn : Within (2 ^ 51) (q *ℤ period) = rw p (mul-mono P q-low ∴ mul-mono P q-high ∴ few ∴ simp ints (omega arith)) in
+      let turn : Within (2 ^ 53) (q *ℤ period) = rw p (mul-mono P q-low ∴ mul-mono P q-high ∴ few ∴ simp ints (omega arith)) in
       record {
         from-first = low ∴ high ∴ simp ints (omega arith);
         whole-fits = rw d (e ∴ low ∴ high ∴ small ∴ simp ints (omega arith));

@@ -16,7 +16,8 @@ use lib.Seq.{drop-cons}
 use Rattle.integers.proofs.Linear.{ints, _∴_}
 use Rattle.calendar.specs.Meaning.{Row, isEmpty, empty, labelOf}
 use Rattle.calendar.specs.Lists.{all, first}
-use Rattle.calendar.specs.Checks.{inRange, labelsOf, neverFalls, sound}
+use Rattle.calendar.specs.Limits.{inRange, poolLimit}
+use Rattle.calendar.specs.Sound.{labelsOf, neverFalls, sound}
 use Rattle.calendar.specs.Questions.{given}
 use Rattle.granules.proofs.Tests.{and-iff, false-iff, eqb-iff, leb-iff, leZ-iff, some-inj, none≢some}
 use Rattle.cursors.specs.Search.{leading}
@@ -243,9 +244,9 @@ risen-end cells i j h = rw (drop-of-length-le cells h)
 -- ---- the numbers of a row
 
 -- where the numbers pass check 13, the labels are left
-pub labels-left : (r : Row) → length (r .cells) ≡ r .period → 1 ≤ r .distance → r .distance ≤ r .period → r .period ≤ 1048576 → sound r ≡ labelsSound (r .distance) (r .cells)
+pub labels-left : (r : Row) → length (r .cells) ≡ r .period → 1 ≤ r .distance → r .distance ≤ r .period → r .period ≤ poolLimit → sound r ≡ labelsSound (r .distance) (r .cells)
 unfolding sound
-labels-left r a b c d = rw (eqb-iff (length (r .cells)) (r .period) .1 a, leb-iff 1 (r .distance) .1 b, leb-iff (r .distance) (r .period) .1 c, leb-iff (r .period) 1048576 .1 d)
+labels-left r a b c d = rw (eqb-iff (length (r .cells)) (r .period) .1 a, leb-iff 1 (r .distance) .1 b, leb-iff (r .distance) (r .period) .1 c, leb-iff (r .period) poolLimit .1 d)
 
 -- a row whose numbers do not pass
 pub unsound : (period distance : ℤ) (cells : List ℤ) → (Numbers period distance cells → ⊥) → sound (given period distance cells) ≡ false

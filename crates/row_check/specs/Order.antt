@@ -9,7 +9,8 @@ use lib.Signed.{leZ}
 use lib.ListN.{length}
 use Rattle.calendar.specs.Meaning.{isEmpty}
 use Rattle.calendar.specs.Lists.{all, first}
-use Rattle.calendar.specs.Checks.{inRange, labelsOf, neverFalls}
+use Rattle.calendar.specs.Limits.{inRange}
+use Rattle.calendar.specs.Sound.{labelsOf, neverFalls}
 
 -- the last of the labels, or j where there is none, if they are not below j and never fall
 unfoldable pub risen : ℤ → List ℤ → Option ℤ

@@ -7,24 +7,23 @@ ghost use lib.Signed.{_≤ℤ_};
 ghost use Rattle.integers.specs.Parts.{up};
 ghost use mathlib.Core.Option.{some};
 ghost use Rattle.calendar.specs.Granules.{instantOf};
-ghost use Rattle.calendar.specs.Checks as C;
+ghost use Rattle.calendar.specs.Limits.{poolLimit};
+ghost use Rattle.calendar.specs.Sound as S;
 ghost use Rattle.calendar.specs.Questions.{given};
 ghost use Rattle.cursors.specs.Found.{found, Sound, Within};
 ghost use Rattle.row_check.specs.Order.{labelsSound};
 use calendar::Calendar;
+use calendar::LONGEST_PERIOD;
 use cursors::Found;
 
 pub mod scan;
-
-// The longest period, in cells.
-pub const LONGEST_PERIOD: i64 = 1048576;
 
 // An instant with the label z: z less whole turns, counted from the first label, is in the row itself.
 pub fn instant_of(cells: &[i32], period: i64, distance: i64, z: i64) -> Found
     requires { ⌜ Sound period distance (now cells) ⌝ }
     requires { ⌜ Within 1000000000 z ⌝ }
     ensures { λ r. ⌜ found r ≡ instantOf (given period distance (now (cells .entry))) z ⌝ }
-    ensures { λ r. ⌜ ((t : ℤ) → found r ≡ some t → Within (2 ^ 52) t) ⌝ }
+    ensures { λ r. ⌜ ((t : ℤ) → found r ≡ some t → Within (2 ^ 54) t) ⌝ }
 {
     let turns = integers::floor_div(z - scan::first_label(cells), distance);
     let cell = z - turns * distance;
@@ -38,7 +37,7 @@ pub fn instant_of(cells: &[i32], period: i64, distance: i64, z: i64) -> Found
 
 // The labels of a row pass check 13. As they never fall, only the first can be too small, and only the last too great.
 fn labels_sound(cells: &[i32], distance: i64) -> bool
-    requires { ⌜ (pos 0 ≤ℤ distance) × (distance ≤ℤ pos 1048576) ⌝ }
+    requires { ⌜ (pos 0 ≤ℤ distance) × (distance ≤ℤ pos poolLimit) ⌝ }
     ensures { λ r. ⌜ r ≡ labelsSound (up distance) (now (cells .entry)) ⌝ }
 {
     let start = scan::leading(cells);
@@ -61,7 +60,7 @@ fn labels_sound(cells: &[i32], distance: i64) -> bool
 
 // The row passes check 13.
 pub fn sound(cells: &[i32], period: i64, distance: i64) -> bool
-    ensures { λ r. ⌜ r ≡ C.sound (given period distance (now (cells .entry))) ⌝ }
+    ensures { λ r. ⌜ r ≡ S.sound (given period distance (now (cells .entry))) ⌝ }
 {
     if distance < 1 {
         return false;

@@ -7,13 +7,15 @@ use native.Mathlib.Omega.{arith}
 use lib.Dec.{leb}
 use Rattle.calendar.specs.Meaning.{Row}
 use Rattle.calendar.specs.Operation.{Operation, mapOperation}
-use Rattle.calendar.specs.Size.{turn, span, size}
+use Rattle.calendar.specs.Size.{turn, span}
+use Rattle.calendar.specs.Distance.{size}
 use Rattle.calendar.specs.Compute.{working}
-use Rattle.calendar.specs.Checks.{fullOperands, aligned, emptied, unlabelled, labelsInRange, sound}
+use Rattle.calendar.specs.Checks.{fullOperands, aligned, emptied, unlabelled, labelsInRange}
+use Rattle.calendar.specs.Sound.{sound}
 use Rattle.calendar.specs.Least.{least}
 use Rattle.calendar.specs.Reply.{Reply, require}
 use Rattle.calendar.specs.Reply.Reply.{refused, answer}
-use Rattle.calendar.specs.Table.{converted}
+use Rattle.calendar.specs.Outcome.{converted}
 use Rattle.granules.proofs.Tests.{not-iff, false-iff}
 use Rattle.granules.proofs.Sound.{sound-valid}
 use Rattle.algebra.specs.Ready.{Operands, Factor, Ready}

@@ -8,12 +8,14 @@ use native.Mathlib.Omega.{arith}
 use lib.IntN.{ℤ}
 use lib.ListN.{length, getD}
 use Rattle.integers.proofs.Linear.{ints}
-use Rattle.calendar.specs.Meaning.{Row}
+use Rattle.calendar.specs.Meaning.{Row, bottomRow}
 use Rattle.calendar.specs.Operation.{Operation, mapOperation}
-use Rattle.calendar.specs.Checks.{sound, poolLimit}
+use Rattle.calendar.specs.Sound.{sound}
+use Rattle.calendar.specs.Limits.{poolLimit, headingLength}
 use Rattle.calendar.specs.Reply.{Reply, andThen}
 use Rattle.calendar.specs.Reply.Reply.{answer}
-use Rattle.calendar.specs.Table.{Entry, named, converted, judged, atRows, bottomRow}
+use Rattle.calendar.specs.Table.{Entry, named}
+use Rattle.calendar.specs.Outcome.{converted, judged, atRows}
 use Rattle.algebra.specs.Ready.{Operands}
 use Rattle.algebra.proofs.Operations.{operands-weaken}
 use Rattle.algebra.proofs.Named.{named-operation}
@@ -92,7 +94,7 @@ module _ (l : List Row) (k : ℕ) (headings : List ℕ) (pool : List ℤ) (used 
   before : (j : ℕ) → Before used (operandOf headings j)
   before j = record { period = simp ints (omega arith); ends = operand-ends s j }
 
-  pub enterable : length pool ≤ poolLimit → 3 * k + 3 ≤ length headings → Enterable (n .kind) a b k used headings pool
+  pub enterable : length pool ≤ poolLimit → headingLength * k + headingLength ≤ length headings → Enterable (n .kind) a b k used headings pool
   enterable limit heading =
       rw (a-is, b-is) (record {
         numbers = names .numbers;

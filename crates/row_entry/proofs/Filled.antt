@@ -12,9 +12,11 @@ use Rattle.integers.specs.Parts.{up}
 use Rattle.integers.proofs.Linear.{ints}
 use Rattle.calendar.specs.Meaning.{Row}
 use Rattle.calendar.specs.Operation.{Operation}
-use Rattle.calendar.specs.Size.{size}
+use Rattle.calendar.specs.Distance.{size}
 use Rattle.calendar.specs.Compute.{working}
-use Rattle.calendar.specs.Checks.{unlabelled, labelsInRange, inRange, labelsOf, cellsInRange, poolLimit, sound}
+use Rattle.calendar.specs.Checks.{unlabelled, labelsInRange}
+use Rattle.calendar.specs.Limits.{inRange, poolLimit}
+use Rattle.calendar.specs.Sound.{labelsOf, cellsInRange, sound}
 use Rattle.calendar.specs.Least.{least}
 use Rattle.calendar.specs.Questions.{given}
 use Rattle.granules.specs.Valid.{Valid}

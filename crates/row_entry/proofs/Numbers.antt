@@ -11,7 +11,7 @@ use mir.Val.{Fits, SFits, toZ}
 use mir.ValLaws.{toZ-pos}
 use Rattle.integers.proofs.Linear.{ints}
 use Rattle.integers.proofs.Machine.{plain}
-use Rattle.calendar.specs.Checks.{poolLimit}
+use Rattle.calendar.specs.Limits.{poolLimit}
 
 pub cast-number : {z : ℤ} → pos 0 ≤ℤ z → z ≤ℤ pos poolLimit → T (nonNeg z) × Fits w32 (natAbs z)
 cast-number {z = pos n} h k = (tt, omega (arith, simp ints at k))

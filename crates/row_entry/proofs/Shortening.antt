@@ -14,7 +14,7 @@ use mir.ValLaws.{toZ-ofZ}
 use Rattle.integers.specs.Parts.{up}
 use Rattle.integers.proofs.Linear.{ints}
 use Rattle.calendar.specs.Meaning.{Row}
-use Rattle.calendar.specs.Checks.{poolLimit}
+use Rattle.calendar.specs.Limits.{poolLimit, headingLength}
 use Rattle.calendar.specs.Least.{least}
 use Rattle.calendar.specs.Questions.{given}
 use Rattle.granules.specs.Valid.{Valid}
@@ -105,14 +105,14 @@ module _ (period distance : ℤ) (used : ℕ) (pool : List ℤ) (w : Worked peri
 
   pub added : (k : ℕ) (numbers headings : List ℕ) (z : ℤ) (e a b c : ℕ) → Found period distance used pool z
       → a ≡ used → b ≡ up z → c ≡ least row .distance → e ≡ used + natAbs (toZ w64 (ofZ w64 z))
-      → headings ≡ take (3 * k) numbers ++ (a ∷ b ∷ c ∷ drop (3 * k + 3) numbers)
+      → headings ≡ take (headingLength * k) numbers ++ (a ∷ b ∷ c ∷ drop (headingLength * k + headingLength) numbers)
       → Added k used numbers pool (least row) e headings pool
   added k numbers headings z e a b c f ae be ce ee he =
       let q : up z ≡ least row .period = ap up (f .is) in
       record {
         heading = he
-            ∙ ap₂ (λ (a b : ℕ). take (3 * k) numbers ++ (a ∷ b ∷ c ∷ drop (3 * k + 3) numbers)) ae (be ∙ q)
-            ∙ ap (λ (c : ℕ). take (3 * k) numbers ++ (used ∷ least row .period ∷ c ∷ drop (3 * k + 3) numbers)) ce;
+            ∙ ap₂ (λ (a b : ℕ). take (headingLength * k) numbers ++ (a ∷ b ∷ c ∷ drop (headingLength * k + headingLength) numbers)) ae (be ∙ q)
+            ∙ ap (λ (c : ℕ). take (headingLength * k) numbers ++ (used ∷ least row .period ∷ c ∷ drop (headingLength * k + headingLength) numbers)) ce;
         cells = take-part pool used (up period) (least row .period) short ∙ ap (λ (l : List ℤ). take used pool ++ l) (sym (least-cells row));
         ends = ee ∙ ap (λ (n : ℕ). used + n) (f .read ∙ q);
       }

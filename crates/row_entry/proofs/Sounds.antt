@@ -15,7 +15,7 @@ use Rattle.integers.proofs.Divisors.{lcm-least}
 use Rattle.calendar.specs.Meaning.{Row}
 use Rattle.calendar.specs.Operation.{mapOperation}
 use Rattle.calendar.specs.Size.{turn, span, spanOf}
-use Rattle.calendar.specs.Checks.{sound}
+use Rattle.calendar.specs.Sound.{sound}
 use Rattle.algebra.specs.Ready.{Operands, Factor}
 use Rattle.kinds.specs.declared.Kind.{Kind}
 use Rattle.kinds.specs.declared.Kind.the-variants.{Bottom, Group, Shift, Alter, Combine, Anchor, Select, ByLabels, Renumber}

@@ -8,9 +8,9 @@ use native.Mathlib.Omega.{arith}
 use lib.IntN.{ℤ, pos}
 use lib.ListN.{length, getD, take, drop, replicate, length-append, take-append-drop}
 use lib.Seq.{take-at, drop-append-seam}
-use Rattle.calendar.specs.Meaning.{Row}
-use Rattle.calendar.specs.Checks.{sound}
-use Rattle.calendar.specs.Table.{bottomRow}
+use Rattle.calendar.specs.Limits.{headingLength}
+use Rattle.calendar.specs.Meaning.{Row, bottomRow}
+use Rattle.calendar.specs.Sound.{sound}
 use Rattle.calendar.specs.Stored.{joined, headingsFrom}
 use Rattle.granules.proofs.Sound.{sound-valid}
 use Rattle.kinds.specs.Stands.{end, rowIn}
@@ -26,14 +26,14 @@ behind a b c l j = λ i. record { start = first i; period = pos (second i); dist
     at : (m n : ℕ) → m ≡ suc (suc (suc n)) → getD (a ∷ b ∷ c ∷ l) m 0 ≡ getD l n 0
     at m n e = ap (λ (m : ℕ). getD (a ∷ b ∷ c ∷ l) m 0) e
 
-    first : getD (a ∷ b ∷ c ∷ l) (3 * suc j) 0 ≡ getD l (3 * j) 0
-    first = at (3 * suc j) (3 * j) (omega arith)
+    first : getD (a ∷ b ∷ c ∷ l) (headingLength * suc j) 0 ≡ getD l (headingLength * j) 0
+    first = at (headingLength * suc j) (headingLength * j) (omega arith)
 
-    second : getD (a ∷ b ∷ c ∷ l) (3 * suc j + 1) 0 ≡ getD l (3 * j + 1) 0
-    second = at (3 * suc j + 1) (3 * j + 1) (omega arith)
+    second : getD (a ∷ b ∷ c ∷ l) (headingLength * suc j + 1) 0 ≡ getD l (headingLength * j + 1) 0
+    second = at (headingLength * suc j + 1) (headingLength * j + 1) (omega arith)
 
-    third : getD (a ∷ b ∷ c ∷ l) (3 * suc j + 2) 0 ≡ getD l (3 * j + 2) 0
-    third = at (3 * suc j + 2) (3 * j + 2) (omega arith)
+    third : getD (a ∷ b ∷ c ∷ l) (headingLength * suc j + 2) 0 ≡ getD l (headingLength * j + 2) 0
+    third = at (headingLength * suc j + 2) (headingLength * j + 2) (omega arith)
 
 -- no heading stands there
 alike-at : (n i d : ℕ) → getD (replicate n d) i d ≡ d
@@ -42,7 +42,7 @@ alike-at (suc n) zero d = refl
 alike-at (suc n) (suc i) d = alike-at n i d
 
 none-ends : (n j : ℕ) → end (operandOf (replicate n 0) j) ≡ 0
-none-ends n j = omega (arith, alike-at n (3 * j) 0, alike-at n (3 * j + 1) 0)
+none-ends n j = omega (arith, alike-at n (headingLength * j) 0, alike-at n (headingLength * j + 1) 0)
 
 -- ---- all cells of a row are in it
 

@@ -15,13 +15,16 @@ use Rattle.integers.specs.Parts.{up}
 use Rattle.integers.proofs.Linear.{ints}
 use Rattle.calendar.specs.Meaning.{Row}
 use Rattle.calendar.specs.Operation.{Operation, mapOperation}
-use Rattle.calendar.specs.Size.{turn, span, size}
+use Rattle.calendar.specs.Size.{turn, span}
+use Rattle.calendar.specs.Distance.{size}
 use Rattle.calendar.specs.Compute.{working}
-use Rattle.calendar.specs.Checks.{unlabelled, labelsInRange, poolLimit, sound}
+use Rattle.calendar.specs.Checks.{unlabelled, labelsInRange}
+use Rattle.calendar.specs.Limits.{poolLimit}
+use Rattle.calendar.specs.Sound.{sound}
 use Rattle.calendar.specs.Least.{least}
 use Rattle.calendar.specs.Questions.{given}
 use Rattle.calendar.specs.Reply.Reply.{answer}
-use Rattle.calendar.specs.Table.{converted}
+use Rattle.calendar.specs.Outcome.{converted}
 use Rattle.granules.proofs.Tests.{leb-iff}
 use Rattle.algebra.specs.Ready.{Operands, Ready}
 use Rattle.operand_checks.specs.declared.Extent.{Extent}

@@ -9,7 +9,8 @@ use lib.ListN.{length, getD, take, drop}
 use Rattle.integers.specs.Parts.{up}
 use Rattle.calendar.specs.Meaning.{Row}
 use Rattle.calendar.specs.Operation.{Operation}
-use Rattle.calendar.specs.Checks.{sound, poolLimit}
+use Rattle.calendar.specs.Sound.{sound}
+use Rattle.calendar.specs.Limits.{poolLimit, headingLength}
 use Rattle.calendar.specs.Questions.{given}
 use Rattle.calendar.specs.Reply.{Reply}
 use Rattle.calendar.specs.Reply.Reply.{refused, answer}
@@ -27,7 +28,7 @@ use Rattle.row_entry.specs.Stores.{Stores}
 -- the row whose heading is the j-th
 abbrev pub operandOf : List ℕ → ℕ → Operand
 operandOf headings j =
-    record { start = getD headings (3 * j) 0; period = pos (getD headings (3 * j + 1) 0); distance = pos (getD headings (3 * j + 2) 0) }
+    record { start = getD headings (headingLength * j) 0; period = pos (getD headings (headingLength * j + 1) 0); distance = pos (getD headings (headingLength * j + 2) 0) }
 
 -- the operation over rows of the pool
 abbrev pub over : Kind → List ℤ → Operand → Operand → Operation Row
@@ -37,7 +38,7 @@ over kind pool a b = operationOf kind (rowIn pool a) (rowIn pool b)
 pub record NamedDue (e : Entries.Entry) (k : ℕ) (headings : List ℕ) (pool : List ℤ) (used : ℕ) : Type 0 where
   pub rows : (l : List Row) × (length l ≡ k) × Stores l headings pool used
   pub passes : (o : Operation ℕ) × (named k (entryOf e) ≡ answer o)
-  pub has-heading : 3 * k + 3 ≤ length headings
+  pub has-heading : headingLength * k + headingLength ≤ length headings
   pub at-most : length pool ≤ poolLimit
 
 -- the operand is part of the first n cells
@@ -54,7 +55,7 @@ pub record Enterable (kind : Kind) (a b : Operand) (k used : ℕ) (headings : Li
   pub b-before : Before used b
   pub fits : used ≤ length pool
   pub at-most : length pool ≤ poolLimit
-  pub has-heading : 3 * k + 3 ≤ length headings
+  pub has-heading : headingLength * k + headingLength ≤ length headings
 
 -- the working row stands in the pool from the cell `used` on
 pub record Worked (period distance : ℤ) (used : ℕ) (pool : List ℤ) : Type 0 where
@@ -65,7 +66,7 @@ pub record Worked (period distance : ℤ) (used : ℕ) (pool : List ℤ) : Type 
 
 -- the row r is added to the first `used` cells of the pool `before`, with the k-th heading; what stands behind it is left open
 pub record Added (k used : ℕ) (numbers : List ℕ) (before : List ℤ) (r : Row) (e : ℕ) (headings : List ℕ) (pool : List ℤ) : Type 0 where
-  pub heading : headings ≡ take (3 * k) numbers ++ (used ∷ r .period ∷ r .distance ∷ drop (3 * k + 3) numbers)
+  pub heading : headings ≡ take (headingLength * k) numbers ++ (used ∷ r .period ∷ r .distance ∷ drop (headingLength * k + headingLength) numbers)
   pub cells : take (used + r .period) pool ≡ take used before ++ r .cells
   pub ends : e ≡ used + r .period
 

@@ -6,9 +6,11 @@ use Prim.Native.Nat.{ℕ, _+_, _-_, _*_, _≤_, _<_}
 use lib.IntN.{ℤ}
 use lib.ListN.{length, take}
 use Rattle.calendar.specs.Meaning.{Row}
-use Rattle.calendar.specs.Checks.{sound, poolLimit}
+use Rattle.calendar.specs.Sound.{sound}
+use Rattle.calendar.specs.Limits.{poolLimit, headingLength}
 use Rattle.calendar.specs.Reply.Reply.{refused, answer}
-use Rattle.calendar.specs.Table.{entryAt, judged}
+use Rattle.calendar.specs.Table.{entryAt}
+use Rattle.calendar.specs.Outcome.{judged}
 use Rattle.calendar.specs.Stored.{joined, headingsFrom, filled}
 use Rattle.row_entry.specs.declared.Entry.{Entry}
 use Rattle.row_entry.specs.declared.Entry.the-variants.{Refused, Ends}
@@ -25,7 +27,7 @@ pub record Stores (l : List Row) (headings : List ℕ) (pool : List ℤ) (used :
 pub record EntryDue (t : List ℤ) (k : ℕ) (headings : List ℕ) (pool : List ℤ) (used : ℕ) : Type 0 where
   pub rows : (l : List Row) × (length l ≡ k) × Stores l headings pool used
   pub in-table : 6 * k + 5 < length t
-  pub has-heading : 3 * k + 3 ≤ length headings
+  pub has-heading : headingLength * k + headingLength ≤ length headings
   pub at-most : length pool ≤ poolLimit
 
 -- what became of the entry k behind the rows l

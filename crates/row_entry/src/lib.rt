@@ -8,11 +8,11 @@ ghost use lib.Signed.{_≤ℤ_};
 ghost use lib.ListN.{length, take, drop};
 ghost use Rattle.integers.specs.Parts.{up};
 ghost use Rattle.calendar.specs.Meaning.{Row};
-ghost use Rattle.calendar.specs.Checks.{poolLimit};
+ghost use Rattle.calendar.specs.Limits.{poolLimit, headingLength};
 ghost use Rattle.calendar.specs.Questions.{given};
 ghost use Rattle.calendar.specs.Least.{least};
 ghost use Rattle.calendar.specs.Reply.Reply.{answer};
-ghost use Rattle.calendar.specs.Table.{converted, judged};
+ghost use Rattle.calendar.specs.Outcome.{converted, judged};
 ghost use Rattle.entries.specs.Entries.{entryOf};
 ghost use Rattle.kinds.specs.Operations.{operands, Numbers, SoundFirst};
 ghost use Rattle.kinds.specs.Stands.{end, rowIn};
@@ -20,11 +20,11 @@ ghost use Rattle.operand_checks.specs.Admission.{admission, checkedOf};
 ghost use Rattle.row_entry.specs.Stores.{Stores};
 ghost use Rattle.row_entry.specs.Entering.{operandOf, over, NamedDue, Before, Enterable, Worked, Added, Became};
 use calendar::Refusal;
-use operand_checks::Checked;
-use operand_checks::Extent;
 use fill_shared::Filled;
 use kinds::Kind;
 use kinds::Operand;
+use operand_checks::Checked;
+use operand_checks::Extent;
 
 // How many numbers a heading has: start, period and distance.
 pub const HEADING_LENGTH: usize = 3;
@@ -37,7 +37,7 @@ pub enum Entry {
 
 // The row whose heading is the j-th.
 fn operand_at(headings: &[u32], j: usize) -> Operand
-    requires { ⌜ 3 * j + 3 ≤ length (now headings) ⌝ }
+    requires { ⌜ headingLength * j + headingLength ≤ length (now headings) ⌝ }
     ensures { λ r. ⌜ r ≡ operandOf (now (headings .entry)) j ⌝ }
 {
     let at = HEADING_LENGTH * j;
@@ -66,8 +66,8 @@ fn number(z: i64) -> u32
 
 // Writes the k-th heading.
 fn write_heading(headings: &mut [u32], k: usize, start: u32, period: u32, distance: u32)
-    requires { ⌜ 3 * k + 3 ≤ length (now headings) ⌝ }
-    ensures { λ r. ⌜ now (headings .exit) ≡ take (3 * k) (now (headings .entry)) ++ (start ∷ period ∷ distance ∷ drop (3 * k + 3) (now (headings .entry))) ⌝ }
+    requires { ⌜ headingLength * k + headingLength ≤ length (now headings) ⌝ }
+    ensures { λ r. ⌜ now (headings .exit) ≡ take (headingLength * k) (now (headings .entry)) ++ (start ∷ period ∷ distance ∷ drop (headingLength * k + headingLength) (now (headings .entry))) ⌝ }
 {
     let at = HEADING_LENGTH * k;
     headings[at] = start;
@@ -120,7 +120,7 @@ fn finish(
     pool: &[i32],
 ) -> usize
     requires { ⌜ Worked period distance used (now pool) ⌝ }
-    requires { ⌜ 3 * k + 3 ≤ length (now headings) ⌝ }
+    requires { ⌜ headingLength * k + headingLength ≤ length (now headings) ⌝ }
     ensures { λ r. ⌜ Added k used (now (headings .entry)) (now (pool .entry)) (least (given period distance (take (up period) (drop used (now (pool .entry)))))) r (now (headings .exit)) (now (pool .entry)) ⌝ }
 {
     let least = least_of(period, distance, used, pool);

@@ -11,6 +11,7 @@ use lib.Signed.{_≤ℤ_, _<ℤ_, leZ, ltZ}
 use Rattle.integers.proofs.Linear.{ints, _∴_}
 use Rattle.integers.proofs.Order.{≤ℤ-antisym, le-or-lt, pos-up}
 use Rattle.integers.proofs.Machine.{test-lt, test-le}
+use Rattle.calendar.specs.Limits.{poolLimit}
 use Rattle.calendar.specs.Meaning.{Row, meant}
 use Rattle.calendar.specs.Granules.{granule}
 use Rattle.calendar.specs.Compute.{selects}
@@ -82,7 +83,7 @@ less P t u h =
     omega (arith, simp ints at here, simp ints at next)
 
 -- a walk from f, which is near t, stays near
-pub room : (P : ℕ) (t f u : ℤ) → P ≤ 1048576 → Within (2 ^ 49) t → (t -ℤ pos P) <ℤ f → f ≤ℤ t → f ≤ℤ u → u ≤ℤ (f +ℤ pos P) → Within (2 ^ 50) u × Near u × Near (u +ℤ pos 1)
+pub room : (P : ℕ) (t f u : ℤ) → P ≤ poolLimit → Within (2 ^ 49) t → (t -ℤ pos P) <ℤ f → f ≤ℤ t → f ≤ℤ u → u ≤ℤ (f +ℤ pos P) → Within (2 ^ 50) u × Near u × Near (u +ℤ pos 1)
 room P t f u small within after before low high = small ∴ within ∴ after ∴ before ∴ low ∴ high ∴ simp ints (omega arith)
 
 module _ (p : Pick) (whole : Bool) (a b : Row) (v : Valid a) (w : Valid b) (j t : ℤ) (f : Starts whole a j t) where

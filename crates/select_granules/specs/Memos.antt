@@ -2,7 +2,7 @@
 use mathlib.Core.Path.{_≡_}
 use mathlib.Core.Bool.{Bool, true, false, _&&_}
 use mathlib.Core.List.{List}
-use lib.IntN.{ℤ, pos, negℤ}
+use lib.IntN.{ℤ, pos}
 use lib.Signed.{_≤ℤ_, leZ}
 use Rattle.integers.specs.Parts.{up}
 use Rattle.calendar.specs.Meaning.{Row}

@@ -16,12 +16,12 @@ ghost use Rattle.select_granules.specs.Memos.{Picks, Recalls};
 ghost use Rattle.select_granules.specs.Deciding.{takes, selectionBy, Decides};
 ghost use Rattle.select_granules.specs.Meeting.{SeenAt, StartsAt};
 use super::Decision;
-use kinds::Pick;
 use super::Picked;
-use cursors::Cursor;
-use cursors::Found;
 use candidates::ends::Instant;
 use containment::Place;
+use cursors::Cursor;
+use cursors::Found;
+use kinds::Pick;
 
 // What an instant says of a's granule j.
 enum Seen {

@@ -18,9 +18,9 @@ ghost use Rattle.select_granules.specs.Memos.{Remembers, flagOf};
 ghost use Rattle.select_granules.specs.Deciding.{Decides, isUp};
 ghost use Rattle.kinds.specs.declared.Pick.{Pick};
 ghost use Rattle.kinds.specs.declared.Selection.the-variants.{Down, Intersecting};
+use cursors::Cursor;
 use kinds::Pick;
 use kinds::Selection;
-use cursors::Cursor;
 
 mod judging;
 mod taking;

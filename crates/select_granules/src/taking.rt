@@ -12,9 +12,9 @@ ghost use Rattle.cursors.specs.Cursor.{cursorAt};
 ghost use Rattle.candidates.specs.Tallies.{candidates};
 ghost use Rattle.kinds.specs.Limits.{PickLimits};
 ghost use Rattle.select_granules.specs.Memos.{Picks, pickedOf};
-use kinds::Pick;
 use super::Picked;
 use cursors::Cursor;
+use kinds::Pick;
 
 // What Pick takes for b's granule i, between two labels.
 fn picked_of(i: i64, low: i64, high: i64) -> Picked

@@ -13,9 +13,9 @@ ghost use Rattle.calendar.specs.Questions.{given};
 ghost use Rattle.cursors.specs.Found.{found, Sound, Within};
 ghost use Rattle.cursors.specs.Cursor.{cursorAt};
 ghost use Rattle.select_granules.specs.Holding.{MetAt};
+use containment::Place;
 use cursors::Cursor;
 use cursors::Found;
-use containment::Place;
 
 // What an instant says to a walk over a granule of a for a whole granule of b.
 enum Met {

@@ -15,7 +15,7 @@ use Rattle.calendar.specs.Operation.Operation.{binary}
 use Rattle.calendar.specs.Lists.{isSome, ifLabel, onLabel, only, equal, first}
 use Rattle.calendar.specs.Granules.{granule}
 use Rattle.calendar.specs.Compute.{result, selects, cellOf}
-use Rattle.calendar.specs.Checks.{inRange}
+use Rattle.calendar.specs.Limits.{inRange}
 use Rattle.granules.specs.Valid.{Valid}
 use Rattle.granules.proofs.Tests.{true≢false}
 use Rattle.cursors.specs.declared.Cursor.{Cursor}

@@ -9,17 +9,17 @@ ghost use Rattle.kinds.specs.declared.Kind.the-variants.{Select};
 ghost use Rattle.kinds.specs.Stands.{rowIn};
 ghost use Rattle.fill_shared.specs.Given.{Given};
 ghost use Rattle.fill_shared.specs.Placed.{Placed, over, Fills};
+use cursors::Found;
 use fill_shared::Filled;
 use fill_shared::any;
 use fill_shared::end_of;
 use fill_shared::outcome;
-use kinds::Operand;
-use cursors::Found;
-use kinds::Selection;
 use fill_stretches::cell_of;
 use fill_stretches::fill_leading;
 use fill_stretches::fill_stretch;
 use fill_stretches::in_limits;
+use kinds::Operand;
+use kinds::Selection;
 
 // The label of a granule that is kept (1 is yes), or none.
 fn kept(j: i64, holds: i64) -> Found

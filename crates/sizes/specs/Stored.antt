@@ -4,7 +4,7 @@ use Prim.Native.Nat.{ℕ, _*_, _≤_}
 use lib.IntN.{ℤ, negℤ}
 use lib.Signed.{_≤ℤ_}
 use Rattle.integers.specs.Parts.{up}
-use Rattle.calendar.specs.Table.{million}
+use Rattle.calendar.specs.Limits.{million}
 use Rattle.calendar.specs.Size as Size
 use Rattle.sizes.specs.declared.Turn.{Turn}
 

@@ -12,6 +12,7 @@ use Rattle.integers.specs.Parts.{up}
 use Rattle.integers.specs.Floor.{floorDiv, floorMod}
 use Rattle.integers.proofs.Linear.{ints, _∴_}
 use Rattle.integers.proofs.Floor.{floor-eq, floor-lt}
+use Rattle.calendar.specs.Limits.{poolLimit}
 use Rattle.calendar.specs.Questions.{given}
 use Rattle.cursors.specs.declared.Cursor.{Cursor}
 use Rattle.cursors.specs.Found.{Sound}
@@ -39,7 +40,7 @@ module _ (period distance : ℤ) (cells : List ℤ) (s : Sound period distance c
       let above : 0 < P = omega (arith, n .low, n .middle) in
       let e = floor-eq P above (c .index +ℤ steps) in
       let m = floor-lt P above (c .index +ℤ steps) in
-      let small : P ≤ 1048576 = n .high in
+      let small : P ≤ poolLimit = n .high in
       let p : turns *ℤ period ≡ pos P *ℤ turns = ap (λ (z : ℤ). turns *ℤ z) (n .period-is) ∙ *ℤ-comm turns (pos P) in
       let d : turns *ℤ distance ≡ pos (up distance) *ℤ turns = ap (λ (z : ℤ). turns *ℤ z) (n .distance-is) ∙ *ℤ-comm turns (pos (up distance)) in
       let r =

@@ -1,7 +1,7 @@
 -- `alignment::is_subcalendar` meets its contract: rows whose labels rise apart are not aligned.
 -- Assumes nothing.
 use mathlib.Core.Path.{_≡_, sym}
-use lib.IntN.{ℤ, _*ℤ_}
+use lib.IntN.{_*ℤ_}
 use Rattle.integers.proofs.Machine.{plain}
 use Rattle.calendar.specs.Lists.{equal}
 use Rattle.granules.proofs.Tests.{not-iff}

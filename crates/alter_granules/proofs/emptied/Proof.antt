@@ -17,7 +17,7 @@ use Rattle.integers.proofs.Machine.{plain}
 use Rattle.integers.proofs.Divisors.{gcd-pos}
 use Rattle.calendar.specs.Meaning.{Row, meant}
 use Rattle.calendar.specs.Lists.{any, from}
-use Rattle.calendar.specs.Checks.{poolLimit}
+use Rattle.calendar.specs.Limits.{poolLimit}
 use Rattle.calendar.specs.Size.{turn, spanOf}
 use Rattle.calendar.specs.Questions.{given}
 use Rattle.cursors.specs.Found.{Within}
@@ -144,7 +144,7 @@ instant-zero-requires c κs =
 abbrev first : tie.After-instant-zero → tie.Start
 first c = begun (c .before .before .before)
 
-zero-label : (c : tie.After-instant-zero) → (meant (b-row (first c)) (c .instant-zero .result) ≡ some (pos 0)) × Within (2 ^ 50) (c .instant-zero .result)
+zero-label : (c : tie.After-instant-zero) → (meant (b-row (first c)) (c .instant-zero .result) ≡ some (pos 0)) × Within (2 ^ 52) (c .instant-zero .result)
 zero-label c =
     let s = first c in
     let p = s .fits .b-period in
@@ -168,7 +168,7 @@ abbrev zero : tie.After-begin-at → tie.After-instant-zero
 zero c = c .before
 
 -- it starts less than a period before the instant
-start-near : {t u p : ℤ} {n : ℕ} → Within (2 ^ 50) t → ((t -ℤ p) ≤ℤ u) × (u ≤ℤ t) → p ≡ pos n → n ≤ poolLimit → Within (2 ^ 51) u
+start-near : {t u p : ℤ} {n : ℕ} → Within (2 ^ 52) t → ((t -ℤ p) ≤ℤ u) × (u ≤ℤ t) → p ≡ pos n → n ≤ poolLimit → Within (2 ^ 53) u
 start-near {t} {u} {p} {n} = simp ints (omega arith)
 
 passable : (c : tie.After-begin-at) → let s = first (zero c) in

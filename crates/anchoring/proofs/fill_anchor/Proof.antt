@@ -11,6 +11,7 @@ use lib.IntN.{ℤ, pos}
 use lib.ListN.{length}
 use mir.Facts.{toZ-ofZ}
 use Rattle.integers.proofs.Linear.{ints}
+use Rattle.calendar.specs.Limits.{poolLimit}
 use Rattle.calendar.specs.Compute.{result}
 use Rattle.cursors.specs.Found.{found}
 use Rattle.kinds.specs.declared.Kind.the-variants.{Anchor}
@@ -136,7 +137,7 @@ loop-holds c =
 abbrev At-loop : Type 0
 At-loop = tie.At-loop Inv-loop μ-loop
 
-index : (c : tie.In-loop Inv-loop μ-loop) → let l = c .before in (entry (told (l .before)) .args .at + l .loop .t < length (l .loop .pool)) × (length (l .loop .pool) ≤ 1048576)
+index : (c : tie.In-loop Inv-loop μ-loop) → let l = c .before in (entry (told (l .before)) .args .at + l .loop .t < length (l .loop .pool)) × (length (l .loop .pool) ≤ poolLimit)
 index c = turn-index _ _ _ _ _ _ _ _ _ (c .before .loop .inv .0) (c .loop-test .taken)
 
 a-end : (l : At-loop) → a-lent (told (l .before)) .end ≤ length (l .loop .pool)

@@ -1,7 +1,7 @@
 -- `c_api::allowance_of` meets its contract: the arms of the match are those of `allowanceOf`.
 use mathlib.Core.Path.{_≡_, refl, sym, ap}
 use mathlib.Core.Bool.{true}
-use Prim.Native.Nat.{ℕ, zero, suc}
+use Prim.Native.Nat.{zero, suc}
 use lib.IntN.{ℤ, pos, negsuc}
 use lib.Ieee.{Float, fin, ofBits, neg}
 use mir.Syntax.{w64}
@@ -9,7 +9,6 @@ use mir.Val.{SFits, ofZ}
 use native.Mathlib.Omega.{arith}
 use Rattle.integers.proofs.Linear.{ints}
 use Rattle.integers.proofs.Machine.{test-eq}
-use Rattle.floats.specs.declared.Allowance.{Allowance}
 use Rattle.floats.specs.declared.Allowance.the-variants.{Fixed, Share}
 use Rattle.c_api.specs.Codes.{allowanceOf}
 use Rattle.c_api.proofs.allowance_of.Statement.{statement}

@@ -5,8 +5,9 @@ use mathlib.Core.Path.{_≡_, refl, ap, _∙_}
 use Prim.Native.Nat.{_/_}
 use lib.ListN.{length}
 use mir.Facts.{toZ-ofZ}
-use Rattle.calendar.specs.Table.{Outcome, outcome}
-use Rattle.calendar.specs.Table.Outcome.{refusedAt, rows}
+use Rattle.calendar.specs.Limits.{headingLength}
+use Rattle.calendar.specs.Outcome.{Outcome, outcome}
+use Rattle.calendar.specs.Outcome.Outcome.{refusedAt, rows}
 use Rattle.conversion.specs.Answers.{answered}
 use Rattle.c_api.specs.Codes.{codeOf, conversionCode}
 use Rattle.c_api.proofs.jogipahn_convert.Statement.{statement}
@@ -17,7 +18,7 @@ code (refusedAt n k) = refl
 code (rows l) = refl
 
 abbrev came : tie.Start → Outcome
-came s = outcome (s .args .table .now) (length (s .args .headings .now) / 3) (length (s .args .pool .now))
+came s = outcome (s .args .table .now) (length (s .args .headings .now) / headingLength) (length (s .args .pool .now))
 
 convert-requires : tie.Need-convert-requires
 convert-requires c κs = search needs

@@ -46,7 +46,7 @@ near l =
     let n = numbers (toZ w64 (ofZ w64 (s .args .b-period))) (toZ w64 (ofZ w64 (s .args .b-distance))) (s .args .b-cells .now) (b-sound s) in
     b .0 ∴ b .1 ∴ n .high ∴ l .loop .inv .low ∴ l .loop .inv .high ∴ simp ints (omega arith)
 
-few : (l : At-loop) → (pos 0 ≤ℤ l .loop .tally .count) × (l .loop .tally .count ≤ℤ pos (2 ^ 21))
+few : (l : At-loop) → (pos 0 ≤ℤ l .loop .tally .count) × (l .loop .tally .count ≤ℤ pos (2 ^ 23))
 few l =
     let s = begun l in
     let n = numbers (toZ w64 (ofZ w64 (s .args .b-period))) (toZ w64 (ofZ w64 (s .args .b-distance))) (s .args .b-cells .now) (b-sound s) in

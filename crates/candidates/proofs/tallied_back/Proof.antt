@@ -43,7 +43,7 @@ near c =
     let n = numbers (toZ w64 (ofZ w64 (s .args .b-period))) (toZ w64 (ofZ w64 (s .args .b-distance))) (s .args .b-cells .now) (b-sound s) in
     l .0 ∴ l .1 ∴ n .high ∴ c .loop .inv .low ∴ c .loop .inv .high ∴ simp ints (omega arith)
 
-few : (c : tie.At-loop Inv-loop μ-loop) → (pos 0 ≤ℤ c .loop .tally .count) × (c .loop .tally .count ≤ℤ pos (2 ^ 21))
+few : (c : tie.At-loop Inv-loop μ-loop) → (pos 0 ≤ℤ c .loop .tally .count) × (c .loop .tally .count ≤ℤ pos (2 ^ 23))
 few c =
     let s = begun c in
     let n = numbers (toZ w64 (ofZ w64 (s .args .b-period))) (toZ w64 (ofZ w64 (s .args .b-distance))) (s .args .b-cells .now) (b-sound s) in

@@ -5,6 +5,7 @@ use mathlib.Core.Path.{_≡_, sym, _∙_, ap}
 use mathlib.Core.List.{List}
 use Prim.Native.Nat.{ℕ, _/_}
 use lib.ListN.{length}
+use Rattle.calendar.specs.Limits.{headingLength}
 use Rattle.calendar.specs.Reply.Reply.{answer}
 use Rattle.calendar.specs.Table.{admitted}
 use Rattle.entries.specs.Entries.{begun}
@@ -36,8 +37,8 @@ clear-headings-requires c κs = search needs
 begin-requires : tie.Need-begin-requires
 begin-requires c κs = search needs
 
-begins : (c : tie.After-begin) → c .begin .result ≡ begun (admitted (start c .args .table .now) (width c / 3) (room c))
-begins c = c .begin .ensures ∙ ap (λ (h : ℕ). begun (admitted (start c .args .table .now) (h / 3) (room c))) (clearing c .clear-headings .kept .0)
+begins : (c : tie.After-begin) → c .begin .result ≡ begun (admitted (start c .args .table .now) (width c / headingLength) (room c))
+begins c = c .begin .ensures ∙ ap (λ (h : ℕ). begun (admitted (start c .args .table .now) (h / headingLength) (room c))) (clearing c .clear-headings .kept .0)
 
 enum-known-begun : tie.Need-enum-known-begun
 enum-known-begun c = search needs
@@ -70,7 +71,7 @@ beginning c = c .before .before .before
 abbrev count : tie.After-known-told2 → ℕ
 count c = c .before .begun2 .given .0 .0
 
-passes : (c : tie.After-known-told2) → let b = beginning c in admitted (start b .args .table .now) (width b / 3) (room b) ≡ answer (count c)
+passes : (c : tie.After-known-told2) → let b = beginning c in admitted (start b .args .table .now) (width b / headingLength) (room b) ≡ answer (count c)
 passes c = begun-entries (sym (begins (beginning c)) ∙ c .before .begun2 .given .1)
 
 convert-entries-requires : tie.Need-convert-entries-requires

@@ -14,6 +14,7 @@ use mir.Val.{SFits, ofZ, toZ}
 use Rattle.integers.specs.Parts.{up}
 use Rattle.integers.proofs.Linear.{ints, _∴_}
 use Rattle.integers.proofs.Machine.{plain, test-eq}
+use Rattle.calendar.specs.Limits.{poolLimit}
 use Rattle.calendar.specs.Meaning.{empty}
 use Rattle.counts.specs.declared.Labels.{Labels}
 use Rattle.cursors.specs.Search.{leading}
@@ -81,7 +82,7 @@ count-is : (c : tie.After-labels-of) → c .labels-of .result .count ≡ pos (su
 unfolding counted
 count-is c = ap (λ (x : Labels). x .count) (labels-are c)
 
-few : (c : tie.Start) → rises (first c) (rest c) ≤ 1048576
+few : (c : tie.Start) → rises (first c) (rest c) ≤ poolLimit
 few c = rises-few (c .args .period) (c .args .distance) (c .args .cells .now) (c .pre)
 
 count-fits : (c : tie.After-labels-of) → SFits w64 (c .labels-of .result .count)

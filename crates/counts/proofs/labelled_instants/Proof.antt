@@ -11,7 +11,7 @@ use lib.ListN.{length, getD, drop}
 use mir.Facts.{toZ-pos}
 use mir.Syntax.{w64}
 use Rattle.integers.proofs.Linear.{ints, _∴_}
-use Rattle.calendar.specs.Checks.{labelsOf}
+use Rattle.calendar.specs.Sound.{labelsOf}
 use Rattle.cursors.proofs.Cells.{bits-empty, bits-full}
 use Rattle.counts.proofs.Counts.{labelled-more, labelled-same, labelled-end}
 use Rattle.counts.proofs.labelled_instants.Statement.{statement}

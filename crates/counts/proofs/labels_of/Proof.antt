@@ -12,8 +12,9 @@ use mir.Syntax.{w64}
 use mir.Val.{toZ}
 use Rattle.integers.proofs.Linear.{ints, _∴_}
 use Rattle.integers.proofs.Machine.{widened, test-eq}
+use Rattle.calendar.specs.Limits.{poolLimit}
 use Rattle.calendar.specs.Meaning.{empty}
-use Rattle.calendar.specs.Checks.{labelsOf}
+use Rattle.calendar.specs.Sound.{labelsOf}
 use Rattle.cursors.specs.Search.{leading}
 use Rattle.cursors.proofs.Numbers.{numbers}
 use Rattle.row_check.proofs.Instants.{has-label}
@@ -86,7 +87,7 @@ last-is c =
     let s = c .before .before in
     ap (λ (i : ℕ). greatest (getD (row c) i empty) (drop i (row c))) (s .pre .1) ∙ counts (s .args .period) (s .args .distance) (row c) (s .pre .0) .1
 
-few : (c : tie.After-changes) → c .changes .result ≤ 1048576
+few : (c : tie.After-changes) → c .changes .result ≤ poolLimit
 few c =
     let d = c .before in
     let s = d .before .before in

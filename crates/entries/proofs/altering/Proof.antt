@@ -4,8 +4,7 @@ use mathlib.Core.Path.{_≡_}
 use lib.IntN.{pos}
 use borrow.Author.Needs.{needs}
 use mir.ValLaws.{toZ-ofZ}
-use Rattle.calendar.specs.Checks.{between}
-use Rattle.calendar.specs.Table.{million}
+use Rattle.calendar.specs.Limits.{between, million}
 use Rattle.entries.proofs.Fields.{Fields}
 use Rattle.entries.proofs.altering.Statement.{statement}
 use Rattle.entries.proofs.altering.Tie as tie

@@ -10,6 +10,7 @@ use borrow.Author.Tests.{ltb-true, ltb-false, le-leb, lt-leb, eq-eqb, ne-eqb}
 use lib.Dec.{eqb, leb}
 use lib.IntN.{ℤ}
 use lib.ListN.{length}
+use Rattle.calendar.specs.Limits.{entryLimit}
 use Rattle.entries.proofs.begin.Statement.{statement}
 use Rattle.entries.proofs.begin.Tie as tie
 
@@ -24,7 +25,7 @@ number-requires-3 c κs = search needs
 
 -- check 1
 whole : List ℤ → Bool
-whole t = eqb (length t % 6) 0 && (leb 1 (length t / 6) && leb (length t / 6) 32)
+whole t = eqb (length t % 6) 0 && (leb 1 (length t / 6) && leb (length t / 6) entryLimit)
 
 fails : (c : tie.Joined1) → whole (c .before .args .table .now) ≡ false
 unfolding whole
@@ -34,14 +35,14 @@ fails c =
     (λ w. simp (ne-eqb _ _ (w .taken)))
     (⊎-elim
     (λ w. simp (eq-eqb _ _ (w .0 .left), lt-leb 1 n (ltb-true n 1 (w .1 .taken))))
-    (λ w. simp (eq-eqb _ _ (w .0 .left), le-leb 1 n (ltb-false n 1 (w .1 .left)), lt-leb n 32 (ltb-true 32 n (w .2 .taken)))))
+    (λ w. simp (eq-eqb _ _ (w .0 .left), le-leb 1 n (ltb-false n 1 (w .1 .left)), lt-leb n entryLimit (ltb-true entryLimit n (w .2 .taken)))))
     (c .if1 .came)
 
 passes : (c : tie.Else3) → whole (c .before .before .before .args .table .now) ≡ true
 unfolding whole
 passes c =
     let n = length (c .before .before .before .args .table .now) / 6 in
-    simp (eq-eqb _ _ (c .before .before .if1 .left), le-leb 1 n (ltb-false n 1 (c .before .if2 .left)), le-leb n 32 (ltb-false 32 n (c .if3 .left)))
+    simp (eq-eqb _ _ (c .before .before .if1 .left), le-leb 1 n (ltb-false n 1 (c .before .if2 .left)), le-leb n entryLimit (ltb-false entryLimit n (c .if3 .left)))
 
 returns : tie.Need-returns
 unfolding whole

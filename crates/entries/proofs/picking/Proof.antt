@@ -4,8 +4,8 @@ use mathlib.Core.Path.{_≡_}
 use lib.IntN.{pos, negℤ}
 use borrow.Author.Needs.{needs}
 use mir.ValLaws.{toZ-ofZ}
-use Rattle.calendar.specs.Checks.{between}
-use Rattle.calendar.specs.Table.{million, zero?}
+use Rattle.calendar.specs.Limits.{between, million}
+use Rattle.calendar.specs.Table.{zero?}
 use Rattle.entries.proofs.Fields.{Fields}
 use Rattle.entries.proofs.picking.Statement.{statement}
 use Rattle.entries.proofs.picking.Tie as tie

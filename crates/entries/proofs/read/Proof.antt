@@ -12,7 +12,7 @@ use lib.Signed.{_≤ℤ_, leZ}
 use mir.ValLaws.{toZ-ofZ}
 use Rattle.integers.specs.Parts.{up}
 use Rattle.integers.proofs.Machine.{plain}
-use Rattle.calendar.specs.Checks.{between}
+use Rattle.calendar.specs.Limits.{between}
 use Rattle.calendar.specs.Reply.{require}
 use Rattle.calendar.specs.Reply.Reply.{answer}
 use Rattle.calendar.specs.Table.{Entry, named}

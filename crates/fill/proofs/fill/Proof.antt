@@ -13,8 +13,7 @@ use Rattle.kinds.specs.Operations.{operationOf}
 use Rattle.kinds.specs.Stands.{rowIn}
 use Rattle.fill_shared.specs.declared.Filled.{Filled}
 use Rattle.fill_shared.specs.Given.{Given}
-use Rattle.fill_shared.specs.Placed.{Placed}
-use Rattle.fill_shared.specs.Placed.{Fills}
+use Rattle.fill_shared.specs.Placed.{Placed, Fills}
 use Rattle.fill.proofs.fill.Statement.{statement}
 use Rattle.fill.proofs.fill.Tie as tie
 

@@ -16,7 +16,7 @@ use lib.IntN.{ℤ}
 use mir.Facts.{toZ-ofZ}
 use mir.Syntax.{w64}
 use mir.Val.{toZ}
-use Rattle.calendar.specs.Checks.{inRange}
+use Rattle.calendar.specs.Limits.{inRange}
 use Rattle.fill_shared.proofs.Turns.{turn-out}
 use Rattle.fill_shared.proofs.Working.{range-fits}
 use Rattle.fill_stretches.specs.Stretch.{Follows, Stretched}

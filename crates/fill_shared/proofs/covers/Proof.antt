@@ -2,7 +2,7 @@
 -- Assumes nothing.
 use borrow.Author.Needs.{sfits-of}
 use mathlib.Core.Path.{_≡_}
-use mathlib.Core.Bool.{true, false, _&&_}
+use mathlib.Core.Bool.{false, _&&_}
 use lib.IntN.{ℤ}
 use lib.Signed.{_≤ℤ_, _<ℤ_, leZ}
 use mir.Facts.{toZ-ofZ}

@@ -12,7 +12,7 @@ use mir.Syntax.{w64}
 use mir.Val.{toZ, ofZ}
 use Rattle.calendar.specs.Lists.{ifLabel}
 use Rattle.calendar.specs.Compute.{cellOf}
-use Rattle.calendar.specs.Checks.{inRange}
+use Rattle.calendar.specs.Limits.{inRange}
 use Rattle.granules.proofs.Tests.{true≢false}
 use Rattle.cursors.specs.declared.Found.{Found}
 use Rattle.cursors.specs.Found.{found}

@@ -9,7 +9,7 @@ use mir.Val.{SFits}
 use Rattle.integers.proofs.Machine.{plain}
 use Rattle.calendar.specs.Lists.{ifLabel}
 use Rattle.calendar.specs.Compute.{cellOf}
-use Rattle.calendar.specs.Checks.{inRange}
+use Rattle.calendar.specs.Limits.{inRange}
 use Rattle.cursors.specs.Found.{found}
 use Rattle.fill_shared.proofs.Working.{range-fits}
 use Rattle.fill_stretches.proofs.cell_of.Statement.{statement}

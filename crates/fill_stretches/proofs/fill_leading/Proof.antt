@@ -9,6 +9,7 @@ use mir.Syntax.{w64}
 use mir.Val.{toZ, ofZ}
 use Rattle.integers.proofs.Linear.{ints, _∴_}
 use Rattle.integers.proofs.Machine.{plain}
+use Rattle.calendar.specs.Limits.{poolLimit}
 use Rattle.fill_shared.proofs.Points.{label-small}
 use Rattle.fill_stretches.specs.Stretch.{rowFrom, Room}
 use Rattle.fill_stretches.proofs.Growing.{leads}
@@ -50,7 +51,7 @@ returns c =
     let x = simp plain at (c .before .fill-stretch .ensures) in
     let r = s .pre in
     leads x refl (λ u l m e h.
-    let t : u < 1048576 = omega (arith, r .room, r .few) in
+    let t : u < poolLimit = omega (arith, r .room, r .few) in
     let b = label-small (s .args .period) (s .args .distance) (rowFrom (s .args .start) (s .args .end) (s .args .period) (s .args .distance) (s .args .pool .now) .cells) (r .is-sound) (pos u) l (simp ints (omega arith)) (simp ints (omega arith)) e in
     b ∴ h ∴ simp ints (omega arith))
 

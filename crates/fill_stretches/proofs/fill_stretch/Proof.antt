@@ -16,9 +16,10 @@ use mir.Syntax.{w32, w64}
 use mir.Val.{toZ, ofZ, SFits}
 use Rattle.integers.proofs.Linear.{ints}
 use Rattle.integers.proofs.Machine.{plain, test-lt, test-not-lt}
+use Rattle.calendar.specs.Limits.{poolLimit}
 use Rattle.calendar.specs.Meaning.{Row, meant}
 use Rattle.cursors.specs.Found.{found}
-use Rattle.calendar.specs.Checks.{sound}
+use Rattle.calendar.specs.Sound.{sound}
 use Rattle.calendar.specs.Questions.{given}
 use Rattle.cursors.specs.declared.Cursor.{Cursor}
 use Rattle.cursors.specs.Cursor.{cursorAt, Standing}
@@ -103,7 +104,7 @@ module _ (s : Start) (new : List ℤ) (cursor : Cursor) (t : ℕ) (g : Grown (C 
       let f = room s in
       ap (given (P s) (N s)) (grown-kept (C s) (H s) (row s) _ _ _ (old s) new cursor t g (s .args .start) (s .args .end) (omega (arith, f .room)) (f .starts) (f .ends))
 
-  part : (s .args .start ≤ s .args .end) × (s .args .end ≤ length new) × (s .args .end ≤ 1048576)
+  part : (s .args .start ≤ s .args .end) × (s .args .end ≤ length new) × (s .args .end ≤ poolLimit)
   part = let f = room s in let e = same in (f .starts, omega (arith, f .ends, f .room), omega (arith, f .ends, f .room, f .few))
 
   -- what a call is asked of the row, with the cursor of an instant
@@ -111,14 +112,14 @@ module _ (s : Start) (new : List ℤ) (cursor : Cursor) (t : ℕ) (g : Grown (C 
       → let r = rowFrom (s .args .start) (s .args .end) (P s) (N s) new in (sound r ≡ true) × Standing r c
   asks c u m e =
       let f = room s in
-      let y : u < 1048576 = omega (arith, f .room, f .few) in
+      let y : u < poolLimit = omega (arith, f .room, f .few) in
       rw kept (f .is-sound, (pos u, simp ints (omega arith), e))
 
   -- the instant is one of the pool
-  index : t < s .args .size → (s .args .at + t < length new) × (length new ≤ 1048576)
+  index : t < s .args .size → (s .args .at + t < length new) × (length new ≤ poolLimit)
   index m = let f = room s in let e = same in (omega (arith, f .room), omega (arith, f .few))
 
-at-part : (l : At) → (base l .args .start ≤ base l .args .end) × (base l .args .end ≤ length (l .loop .pool)) × (base l .args .end ≤ 1048576)
+at-part : (l : At) → (base l .args .start ≤ base l .args .end) × (base l .args .end ≤ length (l .loop .pool)) × (base l .args .end ≤ poolLimit)
 at-part l = part (base l) _ _ _ (l .loop .inv)
 
 mul-cursor-label : tie.Need-mul-cursor-label Inv-loop μ-loop
@@ -215,7 +216,7 @@ more c next e =
     let x = cells c in
     grown-more (C s) (H s) (row s) _ _ _ (old s) _ _ _ (l .loop .inv) (x .0) next _ (in-of c .loop-test .taken) (x .1) (x .2) (x .3) e
 
-index-of : (c : Set) → let l = at-of c in (base l .args .at + l .loop .t < length (l .loop .pool)) × (length (l .loop .pool) ≤ 1048576)
+index-of : (c : Set) → let l = at-of c in (base l .args .at + l .loop .t < length (l .loop .pool)) × (length (l .loop .pool) ≤ poolLimit)
 index-of c = let l = at-of c in index (base l) _ _ _ (l .loop .inv) (in-of c .loop-test .taken)
 
 add-written : tie.Need-add-written Inv-loop μ-loop
@@ -230,7 +231,7 @@ slice-set-from-written c = index-of c .0
 -- ---- the next instant
 
 set-part : (c : Set) → let l = at-of c in let s = base l in
-    (s .args .start ≤ s .args .end) × (s .args .end ≤ length (set (l .loop .pool) (s .args .at + l .loop .t) (toZ w32 (c .match .written)))) × (s .args .end ≤ 1048576)
+    (s .args .start ≤ s .args .end) × (s .args .end ≤ length (set (l .loop .pool) (s .args .at + l .loop .t) (toZ w32 (c .match .written)))) × (s .args .end ≤ poolLimit)
 set-part c = part (base (at-of c)) _ _ _ (more c _ refl)
 
 mul-cursor-next : tie.Need-mul-cursor-next Inv-loop μ-loop

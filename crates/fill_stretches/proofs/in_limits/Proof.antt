@@ -6,7 +6,7 @@ use mir.Syntax.{w64}
 use mir.Val.{SFits}
 use Rattle.integers.proofs.Machine.{plain}
 use Rattle.calendar.specs.Lists.{ifLabel}
-use Rattle.calendar.specs.Checks.{inRange}
+use Rattle.calendar.specs.Limits.{inRange}
 use Rattle.cursors.specs.Found.{found}
 use Rattle.fill_stretches.proofs.in_limits.Statement.{statement}
 use Rattle.fill_stretches.proofs.in_limits.Tie as tie

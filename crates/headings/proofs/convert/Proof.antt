@@ -2,11 +2,12 @@
 -- then `write_all` on the headings and what that returned, and the answer is read out of it.
 -- Each `&mut` goes to its callee at its own lifetime, share and name, and its last list is the callee's to say (`gave-slice`).
 -- Assumes nothing.
+use Rattle.calendar.specs.Limits.{entryLimit, headingLength}
 use Rattle.hand_proofs.proofs.Logic.{_≡_, refl, ap, _∙_, [], _∷_, List, ℤ, length, URA, fullShare, Ty, named, Val, SProp, ent, emp, via, fst∗, id⊢, Lft, Share, Fml, ftrue, fat, flft, Memory, Routine, Heap, WpFn, Tables, Atoms, Fun, givenOf, tables, tablesOf, Given, ‵, _⊛_, ⋆, _$_, _∵_, !, qed, by, move, keep, use1, split, join, rewrite, fsplit, fjoin, feqL, suffices, frame, done, look, init, stop, from, of-opd, and-then, no-more, land, returns, enter, alloc1, alloc0, params1, pass1, pass0, free0, agg, fmOf, owns, Is, nothing-lawful, i32, RefT, sliceVal, MutSlice, ShrSlice, Room, finally, slice-vals, mut-slice-tells, shr-slice-tells, shr-slice-copy, plain, only, owned, nothing, onEntry, Meets, tripleOf, entered, cited, says, Stays, stay-none-slice, gave-slice, walkOf, goes-none-slice, goes-gave-slice, ends-at, yes, usize, uint-makes, w64, vint, drop}
 use Prim.Native.Nat.{ℕ}
 use denote.Struct.Laws as LL
 use denote.Enum.Laws as EL
-use Rattle.calendar.specs.Table.{Outcome, outcome}
+use Rattle.calendar.specs.Outcome.{Outcome, outcome}
 use Rattle.calendar.specs.Stored.{headingsAfter, poolAfter}
 use Rattle.conversion.specs.Answers.{answered}
 use Rattle.headings.specs.Records.{recordsOf, recordsAfter}
@@ -100,7 +101,7 @@ module _ {M : Type 1} (𝓤 : URA M) (H : Heap 𝓤) (A : Atoms 𝓤) (W : Given
         move ! (1 ∷ []) $ with-own ! usize (uint-makes 𝓤 H A W w64) n _ (refl, hr .0) $ move ! (2 ∷ 0 ∷ []) $ fjoin ! $ move ! (3 ∷ 0 ∷ []) $
         -- [the tokens; what t, n and pool own; what hs owns; what t owns; hs's token; _10; …]
         calls-fn ! (fmOf 𝓤 H (W .laws) 𝓣) g.ended (g.clauses 𝓤 H A mem run) known-made ((κ₁, (κ₃, tt)), (q₁, (q₃, tt)), tt, (t, (n, (p, tt))), (sv t ∷ [], (vint w64 n ∷ [], (sv p ∷ [], tt)))) tt (id⊢ 𝓤 _) (‵ (flft κ₁ q₁) ⊛ (‵ (flft κ₃ q₃) ⊛ ‵ ftrue)) (id⊢ 𝓤 _) (id⊢ 𝓤 _)
-        (λ m ws. (m .answer ≡ answered o) × (m .plain ≡ headingsAfter 96 o) × (ws .1 .1 .0 ≡ poolAfter (length (p .now)) o)) (λ m ws. id⊢ 𝓤 _)
+        (λ m ws. (m .answer ≡ answered o) × (m .plain ≡ headingsAfter (headingLength * entryLimit) o) × (ws .1 .1 .0 ≡ poolAfter (length (p .now)) o)) (λ m ws. id⊢ 𝓤 _)
         (and-then ! (cell ! 22 refl) (and-then ! (cell ! 14 refl) (and-then ! (cell ! 10 refl) (no-more !)))) (λ u m ws e is.
         -- [what m owns; what is said of pool; the tokens; what hs owns; what t owns; hs's token; _10; …; _9; …; _8; …; _7; …; _6; …; _5; …; _4; …; _3; …; _2; …; _1; …; room for _0; …]
         land ! (from ! (stop !)) (init ! 18 refl (LL.lawful D.the-type D′.the-laws 𝓤 H A W .typed m _ is .0)) $

@@ -9,7 +9,8 @@ use native.Mathlib.Omega.{arith}
 use lib.IntN.{ℤ}
 use lib.ListN.{length, take, drop, replicate}
 use lib.Seq.{length-take-le}
-use Rattle.calendar.specs.Table.{outcome}
+use Rattle.calendar.specs.Limits.{entryLimit, headingLength}
+use Rattle.calendar.specs.Outcome.{outcome}
 use Rattle.calendar.specs.Stored.{headingsAfter, poolAfter}
 use Rattle.conversion.specs.declared.Conversion.{Conversion}
 use Rattle.conversion.specs.Answers.{answered}
@@ -22,22 +23,22 @@ asked : (c : tie.After-row-known) → Asked (c .before .before .args .lent) (c .
 asked c = ⊎-elim (λ w. asked-all _ _ (w .0 .taken) (w .1)) (λ w. asked-most _ _ (w .0 .left) (w .1)) (c .before .if1 .came)
 
 abbrev plain : List ℕ
-plain = replicate 96 0
+plain = replicate (headingLength * entryLimit) 0
 
 -- the numbers that are lent
-lent : (m : ℕ) → m ≤ 32 → length (take (3 * m) plain) ≡ 3 * m
-lent m h = length-take-le (3 * m) plain (omega arith)
+lent : (m : ℕ) → m ≤ entryLimit → length (take (headingLength * m) plain) ≡ headingLength * m
+lent m h = length-take-le (headingLength * m) plain (omega arith)
 
 -- what the callee ensures, read at all numbers
-made : (t : List ℤ) (n m p : ℕ) → Asked n m → (k : ℕ) → k ≡ 3 * m → (r : Conversion) (numbers : List ℕ) (pool : List ℤ)
-    → (r ≡ answered (outcome t (k / 3) p)) × (numbers ≡ headingsAfter k (outcome t (k / 3) p)) × (pool ≡ poolAfter p (outcome t (k / 3) p))
-    → (r ≡ answered (outcome t n p)) × (numbers ++ drop (3 * m) plain ≡ headingsAfter 96 (outcome t n p)) × (pool ≡ poolAfter p (outcome t n p))
+made : (t : List ℤ) (n m p : ℕ) → Asked n m → (k : ℕ) → k ≡ headingLength * m → (r : Conversion) (numbers : List ℕ) (pool : List ℤ)
+    → (r ≡ answered (outcome t (k / headingLength) p)) × (numbers ≡ headingsAfter k (outcome t (k / headingLength) p)) × (pool ≡ poolAfter p (outcome t (k / headingLength) p))
+    → (r ≡ answered (outcome t n p)) × (numbers ++ drop (headingLength * m) plain ≡ headingsAfter (headingLength * entryLimit) (outcome t n p)) × (pool ≡ poolAfter p (outcome t n p))
 made t n m p a k e r numbers pool h =
-    let q : k / 3 ≡ m = omega arith in
-    let o : outcome t (k / 3) p ≡ outcome t n p = ap (λ (i : ℕ). outcome t i p) q ∙ a .alike t p in
+    let q : k / headingLength ≡ m = omega arith in
+    let o : outcome t (k / headingLength) p ≡ outcome t n p = ap (λ (i : ℕ). outcome t i p) q ∙ a .alike t p in
     let all = outcome-numbers t m p (a .few) in (
       h .0 ∙ ap answered o,
-      ap (λ (x : List ℕ). x ++ drop (3 * m) plain) (h .1 ∙ ap₂ (λ (i : ℕ) (j : ℕ). headingsAfter i (outcome t j p)) e q) ∙ all ∙ ap (headingsAfter 96) (a .alike t p),
+      ap (λ (x : List ℕ). x ++ drop (headingLength * m) plain) (h .1 ∙ ap₂ (λ (i : ℕ) (j : ℕ). headingsAfter i (outcome t j p)) e q) ∙ all ∙ ap (headingsAfter (headingLength * entryLimit)) (a .alike t p),
       h .2 ∙ ap (poolAfter p) o,
     )
 

@@ -9,6 +9,7 @@ use lib.ListN.{length, length-map, List·getD-eq-default}
 use mir.Val.{Val}
 use denote.Laws.{Is}
 use denote.Struct.Laws as LL
+use Rattle.calendar.specs.Limits.{entryLimit, headingLength}
 use Rattle.headings.specs.declared.Made.{Made}
 use Rattle.headings.specs.Records.{noHeading, recordAt}
 use Rattle.headings.proofs.Made as D
@@ -47,11 +48,11 @@ element-copy-out-t20 c = search needs
 returns : tie.Need-returns
 returns c = search needs
 
--- there are 96 numbers
-count : (m : Made) (vs : List Val) → Is D.the-row m vs → length (m .plain) ≡ 96
+-- there are three numbers for each entry that a table may have
+count : (m : Made) (vs : List Val) → Is D.the-row m vs → length (m .plain) ≡ (headingLength * entryLimit)
 count m vs is = sym (length-map (m .plain) (λ v. v)) ∙ LL.owed D.the-type D′.the-laws m vs is .1 .0 .1 .0 .1
 
-past : (plain : List ℕ) (i : ℕ) → length plain ≡ 96 → 32 ≤ i → noHeading ≡ recordAt plain i
+past : (plain : List ℕ) (i : ℕ) → length plain ≡ (headingLength * entryLimit) → entryLimit ≤ i → noHeading ≡ recordAt plain i
 past plain i e h =
     sym (record-ext (List·getD-eq-default plain 0 (omega arith)) (List·getD-eq-default plain 0 (omega arith)) (List·getD-eq-default plain 0 (omega arith)))
 

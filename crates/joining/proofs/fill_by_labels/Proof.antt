@@ -10,6 +10,7 @@ use native.Mathlib.Omega.{arith}
 use lib.IntN.{ℤ, pos}
 use lib.ListN.{length}
 use Rattle.integers.proofs.Linear.{ints}
+use Rattle.calendar.specs.Limits.{poolLimit}
 use Rattle.calendar.specs.Compute.{result}
 use Rattle.cursors.specs.Found.{found}
 use Rattle.kinds.specs.declared.Kind.the-variants.{ByLabels}
@@ -118,7 +119,7 @@ loop-holds c = (first (told c), record { low = simp ints (omega arith); high = s
 abbrev At-loop : Type 0
 At-loop = tie.At-loop Inv-loop μ-loop
 
-index : (c : tie.In-loop Inv-loop μ-loop) → let l = c .before in (entry (told (l .before)) .args .at + l .loop .t < length (l .loop .pool)) × (length (l .loop .pool) ≤ 1048576)
+index : (c : tie.In-loop Inv-loop μ-loop) → let l = c .before in (entry (told (l .before)) .args .at + l .loop .t < length (l .loop .pool)) × (length (l .loop .pool) ≤ poolLimit)
 index c = turn-index _ _ _ _ _ _ _ _ _ (c .before .loop .inv .0) (c .loop-test .taken)
 
 a-end : (l : At-loop) → a-lent (told (l .before)) .end ≤ length (l .loop .pool)

@@ -13,6 +13,7 @@ use Rattle.integers.specs.Parts.{up}
 use Rattle.integers.proofs.Linear.{ints, _∴_}
 use Rattle.integers.proofs.Machine.{plain}
 use Rattle.integers.proofs.Divide.{div-needs}
+use Rattle.calendar.specs.Limits.{poolLimit}
 use Rattle.calendar.specs.Least.{least}
 use Rattle.calendar.specs.Questions.{given}
 use Rattle.granules.proofs.Sound.{sound-valid}
@@ -25,15 +26,15 @@ use Rattle.least_form.proofs.least_distance.Tie as tie
 -- ---- numbers from 1 to 1,048,576
 record Small (z : ℤ) : Type 0 where
   low : pos 1 ≤ℤ z
-  high : z ≤ℤ pos 1048576
+  high : z ≤ℤ pos poolLimit
 
 small-pos : {z : ℤ} → Small z → pos 0 <ℤ z
 small-pos {z} h = h .low ∴ simp ints (omega arith)
 
 product-fits : {y z : ℤ} → Small y → Small z → SFits w64 (y *ℤ z)
 product-fits {y = pos m} {z = pos n} h k =
-    let a : m ≤ 1048576 = omega (arith, simp ints at (h .high)) in
-    let b : n ≤ 1048576 = omega (arith, simp ints at (k .high)) in
+    let a : m ≤ poolLimit = omega (arith, simp ints at (h .high)) in
+    let b : n ≤ poolLimit = omega (arith, simp ints at (k .high)) in
     simp ints (omega (arith, mul-le-mul a b))
 product-fits {y = pos m} {z = negsuc n} h k = absurd (k .low .le)
 product-fits {y = negsuc m} {z} h k = absurd (h .low .le)

@@ -17,6 +17,7 @@ use Rattle.integers.specs.Gcd.{gcd}
 use Rattle.integers.proofs.Linear.{ints, _∴_}
 use Rattle.integers.proofs.Machine.{plain}
 use Rattle.integers.proofs.Divisors.{gcd-pos}
+use Rattle.calendar.specs.Limits.{poolLimit}
 use Rattle.calendar.specs.Least.{least}
 use Rattle.calendar.specs.Questions.{given}
 use Rattle.granules.specs.Valid.{Valid}
@@ -80,13 +81,13 @@ loop-holds c =
 -- ---- a turn
 
 -- a quotient of a number of the row is small
-quotient : (x m : ℕ) → x ≤ 1048576 → toZ w64 (x / m) ≡ pos (x / m)
+quotient : (x m : ℕ) → x ≤ poolLimit → toZ w64 (x / m) ≡ pos (x / m)
 quotient x m h = toZ-pos w64 (x / m) (omega (arith, div-le-self x m))
 
-p-small : (c : tie.Start Inv-loop μ-loop) → p c ≤ 1048576
+p-small : (c : tie.Start Inv-loop μ-loop) → p c ≤ poolLimit
 p-small c = omega (arith, p-is c, known c .high)
 
-n-small : (c : tie.Start Inv-loop μ-loop) → n c ≤ 1048576
+n-small : (c : tie.Start Inv-loop μ-loop) → n c ≤ poolLimit
 n-small c = omega (arith, n-is c, known c .middle, known c .high)
 
 div-q : tie.Need-div-q Inv-loop μ-loop

@@ -13,6 +13,7 @@ use lib.ListN.{length, set, length-set}
 use mir.Facts.{toZ-ofZ}
 use mir.Syntax.{w64}
 use mir.Val.{toZ, ofZ, SFits}
+use Rattle.calendar.specs.Limits.{poolLimit}
 use Rattle.cursors.proofs.Numbers.{numbers}
 use Rattle.containment.proofs.Places.{instant-is}
 use Rattle.parts.specs.declared.Part.the-variants.{Next, Outside}
@@ -62,7 +63,7 @@ part-fits c = sfits-of (c .known-told .given .0 .1)
 part-says : (c : tie.After-known-told Inv-loop μ-loop) → Says (at-part c) (Next (part c))
 part-says c = subst (Says (at-part c)) (c .before .part .given .1 ∙ ap Next (sym (toZ-ofZ (part-fits c)))) (says (at-part c))
 
-few : (c : tie.At-loop Inv-loop μ-loop) → c .loop .count ≤ 1048576
+few : (c : tie.At-loop Inv-loop μ-loop) → c .loop .count ≤ poolLimit
 few c =
     let s = begun c in
     let n = numbers (toZ w64 (ofZ w64 (s .args .h-period))) (toZ w64 (ofZ w64 (s .args .h-distance))) (s .args .h-cells .now) (h-sound s) in

@@ -5,16 +5,17 @@ use mathlib.Core.Path.{_≡_, refl, sym, _∙_, ap}
 use mathlib.Core.Bool.{true}
 use Prim.Native.Nat.{ℕ, _≤_}
 use native.Mathlib.Omega.{arith}
-use lib.IntN.{ℤ, pos, natAbs}
+use lib.IntN.{pos, natAbs}
 use mir.Facts.{toZ-ofZ}
 use mir.Syntax.{w64}
 use mir.Val.{ofZ, toZ}
 use Rattle.integers.specs.Parts.{up}
 use Rattle.integers.proofs.Machine.{plain}
+use Rattle.calendar.specs.Limits.{poolLimit}
 use Rattle.calendar.specs.Meaning.{Row, labelOf}
 use Rattle.calendar.specs.Lists.{isSome}
 use Rattle.calendar.specs.Granules.{granules}
-use Rattle.calendar.specs.Checks.{sound}
+use Rattle.calendar.specs.Sound.{sound}
 use Rattle.calendar.specs.Questions.{given, labelledInstants}
 use Rattle.floats.specs.Figures.{Shown}
 use Rattle.floats.specs.declared.Figures.{Figures}
@@ -81,7 +82,7 @@ record Limits (r : Row) : Type 0 where
   pub low : 1 ≤ granules r
   pub high : granules r ≤ r .period
   pub least : 1 ≤ r .period
-  pub greatest : r .period ≤ 1048576
+  pub greatest : r .period ≤ poolLimit
 
 limits : (c : tie.Else1) → Limits (row (c .before .before))
 limits c =

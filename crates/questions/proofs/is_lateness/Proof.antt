@@ -1,10 +1,10 @@
 -- `questions::is_lateness` meets its contract: the two tests in order are those of `between`.
 use mathlib.Core.Path.{sym, _∙_, ap}
 use mathlib.Core.Bool.{Bool, _&&_}
-use lib.IntN.{ℤ, pos}
+use lib.IntN.{pos}
 use lib.Signed.{leZ}
 use mir.ValLaws.{toZ-ofZ}
-use Rattle.questions.specs.Answers.{lateLimit}
+use Rattle.calendar.specs.Limits.{lateLimit}
 use Rattle.questions.proofs.is_lateness.Statement.{statement}
 use Rattle.questions.proofs.is_lateness.Tie as tie
 

@@ -1,7 +1,7 @@
 -- `questions::judged` meets its contract: 15, or what `floats::may_be_late` says of the granule's length.
 use borrow.Author.Needs.{needs, sfits-of}
 use mathlib.Core.Path.{_≡_, sym, _∙_, ap, ap₂}
-use mathlib.Core.Bool.{Bool, true}
+use mathlib.Core.Bool.{true}
 use mathlib.Core.Option.{some}
 use Prim.Native.Nat.{ℕ, _≤_, _^_}
 use native.Mathlib.Omega.{arith}
@@ -12,15 +12,16 @@ use Rattle.integers.specs.Parts.{up}
 use Rattle.integers.proofs.Linear.{ints, _∴_}
 use Rattle.integers.proofs.Machine.{plain}
 use Rattle.calendar.specs.Meaning.{Row, meant}
-use Rattle.calendar.specs.Reply.{Reply, require}
+use Rattle.calendar.specs.Reply.{require}
 use Rattle.calendar.specs.Reply.Reply.{answer}
 use Rattle.calendar.specs.Lists.{isSome}
 use Rattle.calendar.specs.Granules.{instantOf, has}
-use Rattle.calendar.specs.Questions.{given, extent}
+use Rattle.calendar.specs.Limits.{lateLimit}
+use Rattle.calendar.specs.Questions.{given, granuleLength}
 use Rattle.floats.specs.Allowance as F
 use Rattle.granules.specs.Valid.{Valid}
 use Rattle.granules.proofs.Instants.{instantOf-labelled}
-use Rattle.granules.proofs.Questions.{extent-at-most}
+use Rattle.granules.proofs.Questions.{length-at-most}
 use Rattle.cursors.specs.Found.{found, Within}
 use Rattle.cursors.proofs.Numbers.{valid, numbers}
 use Rattle.questions.proofs.Replies.{passed, failed}
@@ -75,15 +76,15 @@ is-label c = ap isSome (is-found c)
 near : (c : tie.After-known-told) → Within (2 ^ 59) (instant c)
 near c = c .before .before .before .instant-of .ensures .1 (instant c) (ap found (c .before .at .given .1)) ∴ simp ints (omega arith)
 
-extent-requires : tie.Need-extent-requires
-extent-requires c κs =
+granule-length-requires : tie.Need-granule-length-requires
+granule-length-requires c κs =
     let s = begun c in
     let p = s .fits .period in
     let n = s .fits .distance in
     let t : SFits w64 (instant c) = sfits-of (c .known-told .given .0 .1) in
     simp plain (s .pre .0, ((s .args .z, labelled c), near c))
 
-late : (s : tie.Start) → (s .args .d ≡ pos (up (s .args .d))) × (up (s .args .d) ≤ 1048576)
+late : (s : tie.Start) → (s .args .d ≡ pos (up (s .args .d))) × (up (s .args .d) ≤ lateLimit)
 late s = lateness (s .args .d) (s .pre .1 .1 .0)
 
 cast-may-be-late : tie.Need-cast-may-be-late
@@ -92,13 +93,13 @@ cast-may-be-late c =
     let d = s .fits .d in
     simp plain (cast (up (s .args .d)) (late s .0) (omega (arith, late s .1)))
 
-length-is : (c : tie.After-extent) → c .extent .result ≡ extent (row (begun (c .before))) (begun (c .before) .args .z)
+length-is : (c : tie.After-granule-length) → c .granule-length .result ≡ granuleLength (row (begun (c .before))) (begun (c .before) .args .z)
 length-is c =
     let s = begun (c .before) in
     let p = s .fits .period in
     let n = s .fits .distance in
     let t : SFits w64 (instant (c .before)) = sfits-of (c .before .known-told .given .0 .1) in
-    (simp plain at (c .extent .ensures)) (s .args .z) (labelled (c .before))
+    (simp plain at (c .granule-length .ensures)) (s .args .z) (labelled (c .before))
 
 late-is : (s : tie.Start) → natAbs (toZ w64 (ofZ w64 (s .args .d))) ≡ up (s .args .d)
 late-is s = let d = s .fits .d in simp plain (ap natAbs (late s .0))
@@ -107,14 +108,14 @@ may-be-late-requires : tie.Need-may-be-late-requires
 may-be-late-requires c κs =
     let s = begun (c .before) in
     let n = numbers (s .args .period) (s .args .distance) (s .args .cells .now) (s .pre .0) in
-    let l = extent-at-most (row s) (rules s) (s .args .z) (instant (c .before), labelled (c .before)) in
+    let l = length-at-most (row s) (rules s) (s .args .z) (instant (c .before), labelled (c .before)) in
     (omega (arith, late-is s, late s .1), omega (arith, length-is c, n .high, l), s .pre .1 .1 .1)
 
 replied : (c : tie.After-may-be-late) → let s = begun (c .before .before) in
-    require 15 (has (row s) (s .args .z)) (answer (F.mayBeLate (up (s .args .d)) (extent (row s) (s .args .z)) (s .args .allowance))) ≡ answer (c .may-be-late .result)
+    require 15 (has (row s) (s .args .z)) (answer (F.mayBeLate (up (s .args .d)) (granuleLength (row s) (s .args .z)) (s .args .allowance))) ≡ answer (c .may-be-late .result)
 replied c =
     let s = begun (c .before .before) in
-    let e : c .may-be-late .result ≡ F.mayBeLate (natAbs (toZ w64 (ofZ w64 (s .args .d)))) (c .before .extent .result) (s .args .allowance) = c .may-be-late .ensures in
+    let e : c .may-be-late .result ≡ F.mayBeLate (natAbs (toZ w64 (ofZ w64 (s .args .d)))) (c .before .granule-length .result) (s .args .allowance) = c .may-be-late .ensures in
     passed 15 _ (is-label (c .before .before))
     ∙ ap answer (sym (e ∙ ap₂ (λ (x y : ℕ). F.mayBeLate x y (s .args .allowance)) (late-is s) (length-is (c .before))))
 
@@ -132,7 +133,7 @@ judged-spec =
     enum-known-at
     enum-told
     returns
-    extent-requires
+    granule-length-requires
     cast-may-be-late
     may-be-late-requires
     returns-2

@@ -3,15 +3,16 @@ use borrow.Author.Tests.{not-false}
 use borrow.Author.Needs.{needs}
 use mathlib.Core.Path.{_≡_, sym, _∙_, ap, ap₂}
 use mathlib.Core.Bool.{Bool, true, _&&_}
-use lib.IntN.{ℤ, pos}
+use lib.IntN.{pos}
 use Rattle.integers.proofs.Machine.{plain}
 use Rattle.calendar.specs.Meaning.{Row}
-use Rattle.calendar.specs.Checks.{sound, inRange, between}
+use Rattle.calendar.specs.Sound.{sound}
+use Rattle.calendar.specs.Limits.{inRange, between, lateLimit}
 use Rattle.calendar.specs.Questions.{given}
 use Rattle.floats.specs.Allowance as F
 use Rattle.granules.proofs.Tests.{not-iff}
 use Rattle.cursors.proofs.Bounds.{in-range}
-use Rattle.questions.specs.Answers.{lateLimit, mayBeLate}
+use Rattle.questions.specs.Answers.{mayBeLate}
 use Rattle.questions.proofs.Replies.{passed, failed}
 use Rattle.questions.proofs.may_be_late.Statement.{statement}
 use Rattle.questions.proofs.may_be_late.Tie as tie

@@ -3,7 +3,7 @@ use borrow.Author.Tests.{not-false}
 use borrow.Author.Needs.{needs, sfits-of}
 use mathlib.Core.Path.{_≡_, sym, _∙_, ap}
 use mathlib.Core.Bool.{true}
-use mathlib.Core.Option.{Option, some}
+use mathlib.Core.Option.{some}
 use Prim.Native.Nat.{_^_}
 use native.Mathlib.Omega.{arith}
 use lib.IntN.{ℤ}
@@ -13,13 +13,13 @@ use mir.Val.{SFits}
 use Rattle.integers.proofs.Linear.{ints, _∴_}
 use Rattle.integers.proofs.Machine.{plain}
 use Rattle.calendar.specs.Meaning.{Row, meant}
-use Rattle.calendar.specs.Reply.{Reply, require}
+use Rattle.calendar.specs.Reply.{require}
 use Rattle.calendar.specs.Reply.Reply.{answer}
 use Rattle.calendar.specs.Lists.{isSome}
 use Rattle.calendar.specs.Granules.{instantOf, has}
-use Rattle.calendar.specs.Checks.{sound, inRange}
+use Rattle.calendar.specs.Sound.{sound}
+use Rattle.calendar.specs.Limits.{inRange}
 use Rattle.calendar.specs.Questions.{given, holder, upFromGranule}
-use Rattle.granules.specs.Valid.{Valid}
 use Rattle.granules.proofs.Tests.{not-iff}
 use Rattle.granules.proofs.Instants.{instantOf-labelled}
 use Rattle.cursors.specs.Found.{found, Within}

@@ -1,7 +1,7 @@
 -- `questions::up_instant` meets its contract: 13, 14, then the label that the row gives.
 use mathlib.Core.Path.{_≡_, sym, _∙_, ap}
-use mathlib.Core.Bool.{true, false}
-use mathlib.Core.Option.{Option, some}
+use mathlib.Core.Bool.{true}
+use mathlib.Core.Option.{some}
 use native.Mathlib.Omega.{arith}
 use lib.IntN.{ℤ}
 use borrow.Author.Tests.{not-false}
@@ -10,9 +10,9 @@ use mir.Facts.{toZ-ofZ}
 use Rattle.integers.proofs.Linear.{ints, _∴_}
 use Rattle.integers.proofs.Machine.{plain}
 use Rattle.calendar.specs.Meaning.{Row, meant}
-use Rattle.calendar.specs.Reply.{Reply}
 use Rattle.calendar.specs.Reply.Reply.{answer}
-use Rattle.calendar.specs.Checks.{sound, inRange}
+use Rattle.calendar.specs.Sound.{sound}
+use Rattle.calendar.specs.Limits.{inRange}
 use Rattle.calendar.specs.Questions.{given, upFromInstant}
 use Rattle.granules.proofs.Tests.{not-iff}
 use Rattle.cursors.specs.Found.{found, Near}

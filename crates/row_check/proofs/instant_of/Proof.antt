@@ -105,7 +105,7 @@ instant-is c =
     let i : c .before .position .result < 2 ^ 63 = omega arith in
     simp (plain, turns-are (c .before .before))
 
-within : (c : tie.Then1) → Within (2 ^ 52) (pos (c .before .position .result) +ℤ T (c .before .before .before .before) *ℤ c .before .before .before .before .args .period)
+within : (c : tie.Then1) → Within (2 ^ 54) (pos (c .before .position .result) +ℤ T (c .before .before .before .before) *ℤ c .before .before .before .before .args .period)
 within c = known (c .before .before .before .before) .within (c .before .position .result) (c .if1 .taken)
 
 fits : (c : tie.Then1) → SFits w64 (pos (c .before .position .result) +ℤ T (c .before .before .before .before) *ℤ c .before .before .before .before .args .period)
@@ -119,7 +119,7 @@ returns c =
     let s = c .before .before .before .before in
     let e = read-as {w = w64} {x = instant c} (instant-is c) (fits c) in (
       ap some e ∙ instant-found (s .args .period) (s .args .distance) (s .args .cells .now) (s .pre .0) (s .args .z) (s .pre .1) (c .before .position .result) (place-is (c .before)) (c .if1 .taken),
-      λ t h. subst (Within (2 ^ 52)) (sym e ∙ some-inj h) (within c),
+      λ t h. subst (Within (2 ^ 54)) (sym e ∙ some-inj h) (within c),
     )
 
 returns-2 : tie.Need-returns-2

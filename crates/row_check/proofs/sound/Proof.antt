@@ -11,6 +11,7 @@ use Rattle.integers.specs.Parts.{up}
 use Rattle.integers.proofs.Linear.{ints, _∴_}
 use Rattle.integers.proofs.Machine.{plain}
 use Rattle.integers.proofs.Order.{pos-up}
+use Rattle.calendar.specs.Limits.{poolLimit}
 use Rattle.calendar.specs.Questions.{given}
 use Rattle.cursors.proofs.Cells.{cast-nat}
 use Rattle.row_check.proofs.Order.{unsound, labels-left}
@@ -37,7 +38,7 @@ returns-3 c =
     sym (unsound (s .args .period) (s .args .distance) (s .args .cells .now) (λ n. simp plain at (c .if3 .taken) ∴ n .high ∴ n .period-is ∴ simp ints (omega arith)))
 
 -- what the three tests leave
-passed : (c : tie.Else3) → (pos 1 ≤ℤ c .before .before .before .args .distance) × (c .before .before .before .args .distance ≤ℤ c .before .before .before .args .period) × (c .before .before .before .args .period ≤ℤ pos 1048576)
+passed : (c : tie.Else3) → (pos 1 ≤ℤ c .before .before .before .args .distance) × (c .before .before .before .args .distance ≤ℤ c .before .before .before .args .period) × (c .before .before .before .args .period ≤ℤ pos poolLimit)
 passed c =
     let s = c .before .before .before in
     let d = s .fits .distance in

@@ -12,7 +12,7 @@ use mir.Val.{SFits, ofZ, toZ}
 use Rattle.integers.specs.Parts.{up}
 use Rattle.integers.proofs.Linear.{ints}
 use Rattle.integers.proofs.Machine.{plain}
-use Rattle.calendar.specs.Checks.{poolLimit}
+use Rattle.calendar.specs.Limits.{poolLimit}
 use Rattle.calendar.specs.Least.{least}
 use Rattle.calendar.specs.Questions.{given}
 use Rattle.least_form.specs.Row.{IsLeast}

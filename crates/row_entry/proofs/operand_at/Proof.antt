@@ -2,6 +2,7 @@
 -- Assumes nothing.
 use Prim.Native.Nat.{_+_, _*_}
 use native.Mathlib.Omega.{arith}
+use Rattle.calendar.specs.Limits.{headingLength}
 use Rattle.row_entry.proofs.Numbers.{wide-number}
 use borrow.Author.Needs.{needs}
 use Rattle.row_entry.proofs.operand_at.Statement.{statement}
@@ -17,7 +18,7 @@ shared-slice-read-t6 : tie.Need-shared-slice-read-t6
 shared-slice-read-t6 c = search needs
 
 cast-t7 : tie.Need-cast-t7
-cast-t7 c = omega (arith, c .shared-slice-known .given (3 * c .before .args .j))
+cast-t7 c = omega (arith, c .shared-slice-known .given (headingLength * c .before .args .j))
 
 add-t8 : tie.Need-add-t8
 add-t8 c = search needs
@@ -29,7 +30,7 @@ shared-slice-read-t11 : tie.Need-shared-slice-read-t11
 shared-slice-read-t11 c = search needs
 
 cast-t12 : tie.Need-cast-t12
-cast-t12 c = wide-number _ (c .shared-slice-known2 .given (3 * c .before .before .args .j + 1)) .0
+cast-t12 c = wide-number _ (c .shared-slice-known2 .given (headingLength * c .before .before .args .j + 1)) .0
 
 add-t13 : tie.Need-add-t13
 add-t13 c = search needs
@@ -41,13 +42,13 @@ shared-slice-read-t16 : tie.Need-shared-slice-read-t16
 shared-slice-read-t16 c = search needs
 
 cast-t17 : tie.Need-cast-t17
-cast-t17 c = wide-number _ (c .shared-slice-known3 .given (3 * c .before .before .before .args .j + 2)) .0
+cast-t17 c = wide-number _ (c .shared-slice-known3 .given (headingLength * c .before .before .before .args .j + 2)) .0
 
 returns : tie.Need-returns
 returns c =
     let j = c .before .before .before .args .j in
-    let p = wide-number _ (c .before .shared-slice-known2 .given (3 * j + 1)) .1 in
-    let d = wide-number _ (c .shared-slice-known3 .given (3 * j + 2)) .1 in
+    let p = wide-number _ (c .before .shared-slice-known2 .given (headingLength * j + 1)) .1 in
+    let d = wide-number _ (c .shared-slice-known3 .given (headingLength * j + 2)) .1 in
     rw (p, d)
 
 pub operand-at-spec : {M : Type 1} → statement M

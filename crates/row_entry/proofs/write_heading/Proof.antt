@@ -3,6 +3,7 @@
 use Prim.Native.Nat.{_*_}
 use native.Mathlib.Omega.{arith}
 use lib.ListN.{length-set}
+use Rattle.calendar.specs.Limits.{headingLength}
 use Rattle.row_entry.proofs.Cells.{three-stored}
 use borrow.Author.Needs.{needs}
 use Rattle.row_entry.proofs.write_heading.Statement.{statement}
@@ -39,7 +40,7 @@ same-length : tie.Need-same-length
 same-length c = search needs
 
 returns : tie.Need-returns
-returns c = three-stored (c .args .headings .now) (3 * c .args .k) (c .args .start) (c .args .period) (c .args .distance) (omega arith)
+returns c = three-stored (c .args .headings .now) (headingLength * c .args .k) (c .args .start) (c .args .period) (c .args .distance) (omega arith)
 
 pub write-heading-spec : {M : Type 1} → statement M
 write-heading-spec =

@@ -15,7 +15,8 @@ use mir.Syntax.{w64}
 use mir.Val.{toZ, ofZ}
 use Rattle.integers.proofs.Linear.{ints}
 use Rattle.integers.proofs.Machine.{plain}
-use Rattle.calendar.specs.Checks.{sound}
+use Rattle.calendar.specs.Limits.{poolLimit}
+use Rattle.calendar.specs.Sound.{sound}
 use Rattle.cursors.specs.Found.{Near}
 use Rattle.cursors.specs.Cursor.{cursorAt, Standing, Shown}
 use Rattle.fill_shared.proofs.Turns.{rowOf, turn-length, rows-kept, rows-stood, turn-out, turn-done}
@@ -160,10 +161,10 @@ fill-stretch-requires c κs =
     let h = holds l in
     (room-a _ (A k) (B k) _ _ (old k) _ _ _ (h .stage .turn) (a-sound k), kept l (old k) h (λ x y. Follows x (entry k .args .period) (l .loop .reached)) (h .stage .follows))
 
-filled-part : (c : Filled) → let k = base (at-filled c) in (B k .start ≤ B k .end) × (B k .end ≤ length (filled-pool c)) × (B k .end ≤ 1048576)
+filled-part : (c : Filled) → let k = base (at-filled c) in (B k .start ≤ B k .end) × (B k .end ≤ length (filled-pool c)) × (B k .end ≤ poolLimit)
 filled-part c = let l = at-filled c in let k = base l in b-part k (filled-pool c) (turn-length _ _ _ _ _ _ _ _ _ (filled c (old k) (holds l) _ refl .stage .turn))
 
-filled-few : (c : Filled) → c .fill-stretch .result .t ≤ 1048576
+filled-few : (c : Filled) → c .fill-stretch .result .t ≤ poolLimit
 filled-few c = let l = at-filled c in let k = base l in let h = filled c (old k) (holds l) _ refl .stage in let d = h .turn .lends in omega (arith, h .follows .in-room, d .room, d .few)
 
 mul-cursor-on : tie.Need-mul-cursor-on Inv-loop μ-loop

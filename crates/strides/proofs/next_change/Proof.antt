@@ -14,6 +14,7 @@ use mir.Val.{SFits, ofZ, toZ}
 use Rattle.integers.specs.Parts.{up}
 use Rattle.integers.proofs.Linear.{ints, _∴_}
 use Rattle.integers.proofs.Machine.{plain}
+use Rattle.calendar.specs.Limits.{poolLimit}
 use Rattle.calendar.specs.Meaning.{labelOf, empty}
 use Rattle.cursors.specs.Search.{run}
 use Rattle.cursors.proofs.Numbers.{Numbers, numbers, read-as}
@@ -43,7 +44,7 @@ index-is c =
     let i = known c .index-fits in
     simp plain (index-nat (c .args .cells .now) (known c .low, known c .high ∴ sizes c .period-is ∴ sizes c .whole ∴ simp ints (omega arith)))
 
-few : (c : tie.Start) → length (c .args .cells .now) ≤ 1048576
+few : (c : tie.Start) → length (c .args .cells .now) ≤ poolLimit
 few c = omega (arith, sizes c .whole, sizes c .high)
 
 cast-index : tie.Need-cast-index

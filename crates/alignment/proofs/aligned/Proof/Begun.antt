@@ -13,6 +13,7 @@ use mir.Val.{SFits, toZ, ofZ}
 use Rattle.integers.specs.Parts.{up}
 use Rattle.integers.proofs.Linear.{ints, _∴_}
 use Rattle.integers.proofs.Machine.{plain}
+use Rattle.calendar.specs.Limits.{poolLimit}
 use Rattle.calendar.specs.Meaning.{Row, meant}
 use Rattle.calendar.specs.Operation as Operation
 use Rattle.calendar.specs.Questions.{given}
@@ -100,7 +101,7 @@ starts : (l : Begun) → Starts (a-row (l .before)) (from l)
 starts l = subst (Starts (a-row (l .before))) (sym (toZ-ofZ (sfits-of (l .labelled-instant .ok)))) (l .labelled-instant .ensures)
 
 -- it is in the first turn, and so is within the period
-pub below : (l : Begun) → (pos 0 ≤ℤ from l) × (from l ≤ℤ pos 1048576)
+pub below : (l : Begun) → (pos 0 ≤ℤ from l) × (from l ≤ℤ pos poolLimit)
 below l =
     let s = l .before in
     let n = numbers (toZ w64 (ofZ w64 (s .args .a-period))) (toZ w64 (ofZ w64 (s .args .a-distance))) (s .args .a-cells .now) (a-sound s) in

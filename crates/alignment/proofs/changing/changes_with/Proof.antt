@@ -10,6 +10,7 @@ use mir.Val.{toZ, ofZ}
 use Rattle.integers.specs.Parts.{up}
 use Rattle.integers.proofs.Linear.{ints, _∴_}
 use Rattle.integers.proofs.Machine.{plain, test-lt, test-not-lt}
+use Rattle.calendar.specs.Limits.{poolLimit}
 use Rattle.calendar.specs.Meaning.{Row, meant}
 use Rattle.calendar.specs.Lists.{sameLabel}
 use Rattle.calendar.specs.Questions.{given}
@@ -109,7 +110,7 @@ abbrev at : At → ℤ
 at l = toZ w64 (l .loop .t)
 
 -- the pass is within the span
-within : (l : At) → (pos 0 ≤ℤ at l) × (at l ≤ℤ pos 1048576)
+within : (l : At) → (pos 0 ≤ℤ at l) × (at l ≤ℤ pos poolLimit)
 within l =
     let s = spanned (start l) in
     let w = l .loop .inv .2 in
@@ -128,7 +129,7 @@ steps c = c .next-change .result .steps
 change : (c : Turned) → Changes (b-row (start (c .before))) (at (c .before)) (c .next-change .result)
 change c = c .next-change .ensures (at (c .before)) (c .before .loop .inv .1)
 
-few : (c : Turned) → (pos 1 ≤ℤ steps c) × (steps c ≤ℤ pos 1048576)
+few : (c : Turned) → (pos 1 ≤ℤ steps c) × (steps c ≤ℤ pos poolLimit)
 few c =
     let s = start (c .before) in
     let n = numbers (toZ w64 (ofZ w64 (s .args .b-period))) (toZ w64 (ofZ w64 (s .args .b-distance))) (s .args .b-cells .now) (b-sound s) in

@@ -10,7 +10,7 @@ use Rattle.integers.specs.Parts.{up}
 use Rattle.integers.proofs.Linear.{ints, _∴_}
 use Rattle.integers.proofs.Machine.{test-eq}
 use Rattle.calendar.specs.Questions.{given}
-use Rattle.calendar.specs.Checks.{labelsOf}
+use Rattle.calendar.specs.Sound.{labelsOf}
 use Rattle.granules.proofs.Tests.{eqb-iff}
 use Rattle.cursors.proofs.Numbers.{numbers, valid}
 use Rattle.alignment.proofs.Changes.{all-whole}

@@ -11,7 +11,7 @@ use mir.Val.{toZ, ofZ}
 use Rattle.integers.proofs.Linear.{ints, _∴_}
 use Rattle.integers.proofs.Machine.{plain}
 use Rattle.calendar.specs.Meaning.{Row, meant}
-use Rattle.calendar.specs.Checks.{poolLimit}
+use Rattle.calendar.specs.Limits.{poolLimit}
 use Rattle.calendar.specs.Questions.{given}
 use Rattle.granules.specs.Valid.{Valid}
 use Rattle.cursors.specs.Found.{Sound, Near}

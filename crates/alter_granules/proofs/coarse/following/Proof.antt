@@ -12,6 +12,7 @@ use mir.Syntax.{w64}
 use mir.Val.{toZ, ofZ, SFits}
 use Rattle.integers.proofs.Linear.{ints, _∴_}
 use Rattle.integers.proofs.Machine.{plain}
+use Rattle.calendar.specs.Limits.{poolLimit}
 use Rattle.calendar.specs.Meaning.{Row, meant}
 use Rattle.calendar.specs.Questions.{given}
 use Rattle.cursors.specs.Found.{Sound, Near, Within}
@@ -77,7 +78,7 @@ start c = c .before .before
 changed : (c : tie.After-next-change) → Changes (b-row (start c)) (from (start c)) (c .next-change .result)
 changed c = c .next-change .ensures (from (start c)) (asked (start c) .begun .b-cursor)
 
-few : (c : tie.After-next-change) → (pos 1 ≤ℤ c .next-change .result .steps) × (c .next-change .result .steps ≤ℤ pos 1048576)
+few : (c : tie.After-next-change) → (pos 1 ≤ℤ c .next-change .result .steps) × (c .next-change .result .steps ≤ℤ pos poolLimit)
 few c =
     let s = start c in
     let n = numbers (toZ w64 (ofZ w64 (s .args .b-period))) (toZ w64 (ofZ w64 (s .args .b-distance))) (s .args .b-cells .now) (b-sound s) in

@@ -15,6 +15,7 @@ use Rattle.integers.specs.Floor.{floorDiv, floorMod}
 use Rattle.integers.proofs.Linear.{ints, _∴_}
 use Rattle.integers.proofs.Machine.{plain}
 use Rattle.integers.proofs.Floor.{floor-eq, floor-lt}
+use Rattle.calendar.specs.Limits.{poolLimit}
 use Rattle.calendar.specs.Meaning.{Row, meant}
 use Rattle.calendar.specs.Granules.{instantOf}
 use Rattle.calendar.specs.Questions.{given}
@@ -27,12 +28,12 @@ use Rattle.alter_granules.proofs.emptying.instant_zero.Statement.{state
 use Rattle.alter_granules.proofs.emptying.instant_zero.Tie as tie
 
 -- q turns, over which labels rise by at most 1,000,000,000
-turns-bound : (P N : ℕ) (q : ℤ) → 1 ≤ N → P ≤ 1048576 → Within 1000000000 (pos 0 -ℤ pos N *ℤ q) → Within (1048576 * 1000000000) (pos P *ℤ q)
+turns-bound : (P N : ℕ) (q : ℤ) → 1 ≤ N → P ≤ poolLimit → Within 1000000000 (pos 0 -ℤ pos N *ℤ q) → Within (poolLimit * 1000000000) (pos P *ℤ q)
 turns-bound P N (pos k) h small w = w ∴ mul-le-mul-right k h ∴ mul-le-mul-right k small ∴ simp ints (omega arith)
 turns-bound P N (negsuc k) h small w = w ∴ mul-le-mul-right (suc k) h ∴ mul-le-mul-right (suc k) small ∴ simp ints (omega arith)
 
 -- an instant with the label 0 is near
-zero-near : (period distance : ℤ) (cells : List ℤ) → Sound period distance cells → (t : ℤ) → meant (given period distance cells) t ≡ some (pos 0) → Within (2 ^ 50) t
+zero-near : (period distance : ℤ) (cells : List ℤ) → Sound period distance cells → (t : ℤ) → meant (given period distance cells) t ≡ some (pos 0) → Within (2 ^ 52) t
 zero-near period distance cells s t e =
     let n = numbers period distance cells s in
     let P = up period in

@@ -15,7 +15,7 @@ use Rattle.integers.proofs.Linear.{ints, _∴_}
 use Rattle.integers.proofs.Machine.{plain}
 use Rattle.integers.proofs.Order.{pos-up}
 use Rattle.integers.proofs.Floor.{floorDiv-pos}
-use Rattle.calendar.specs.Checks.{poolLimit}
+use Rattle.calendar.specs.Limits.{poolLimit}
 use Rattle.alter_granules.proofs.emptying.rise_over.Statement.{statement}
 use Rattle.alter_granules.proofs.emptying.rise_over.Tie as tie
 

@@ -85,13 +85,13 @@ loop-holds : tie.Need-loop-holds Inv-loop μ-loop
 loop-holds s = passed-start (s .args .by) (a-row s) (b-row s) (known s) (up (common s)) (count s) (s .args .start) (passable s .begins) (passable s .low)
 
 -- where the pass is
-place : (l : tie.At-loop Inv-loop μ-loop) → Within (2 ^ 52) (at (b-row (l .before)) (l .loop .c))
+place : (l : tie.At-loop Inv-loop μ-loop) → Within (2 ^ 54) (at (b-row (l .before)) (l .loop .c))
 place l =
     let s = l .before in
     passed-place (s .args .by) (a-row s) (b-row s) (known s) (up (common s)) (count s) (s .args .start) (l .loop .c) (toZ w64 (l .loop .n)) (l .loop .inv)
     (passable s .near) (passable s .high)
 
-wider : {t : ℤ} → Within (2 ^ 52) t → Within (2 ^ 58) t
+wider : {t : ℤ} → Within (2 ^ 54) t → Within (2 ^ 58) t
 wider {t} = simp ints (omega arith)
 
 following-requires : tie.Need-following-requires Inv-loop μ-loop

@@ -1,7 +1,7 @@
 -- `calendar::Calendar::in_range` meets its contract: the two tests in order are those of `inRange`.
 use mathlib.Core.Path.{sym, _∙_, ap}
 use mathlib.Core.Bool.{Bool, _&&_}
-use lib.IntN.{ℤ, pos}
+use lib.IntN.{pos}
 use lib.Signed.{leZ}
 use mir.ValLaws.{toZ-ofZ}
 use Rattle.calendar.proofs.Calendar.in_range.Statement.{statement}

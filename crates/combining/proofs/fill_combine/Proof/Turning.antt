@@ -18,7 +18,8 @@ use Rattle.calendar.specs.Meaning.{Row, meant}
 use Rattle.calendar.specs.Lists.{isSome, ifLabel, first}
 use Rattle.calendar.specs.Granules.{granule}
 use Rattle.calendar.specs.Compute.{result, cellOf}
-use Rattle.calendar.specs.Checks.{sound, inRange}
+use Rattle.calendar.specs.Sound.{sound}
+use Rattle.calendar.specs.Limits.{inRange, poolLimit}
 use Rattle.cursors.specs.Found.{found, Within}
 use Rattle.cursors.specs.declared.Cursor.{Cursor}
 use Rattle.cursors.specs.Cursor.{cursorAt}
@@ -66,7 +67,7 @@ pub inside : (c : In) → at-of c .loop .reached .t < entry (base (at-of c)) .ar
 inside c = c .if1 .taken
 
 -- and so is near
-pub few : (c : In) → at-of c .loop .reached .t < 1048576
+pub few : (c : In) → at-of c .loop .reached .t < poolLimit
 few c = let l = holds (at-of c) .stage .turn .lends in omega (arith, inside c, l .room, l .few)
 
 module _ (l : At) (x : List ℤ) (h : Holds l x) where

@@ -10,7 +10,7 @@ use native.Mathlib.Omega.{arith}
 use lib.IntN.{ℤ, pos}
 use lib.ListN.{length, set, take, drop, length-set}
 use Rattle.calendar.specs.Operation.Operation.{bottom}
-use Rattle.calendar.specs.Size.{size}
+use Rattle.calendar.specs.Distance.{size}
 use Rattle.calendar.specs.Compute.{working}
 use Rattle.fill_shared.specs.Placed.{filledAs}
 use Rattle.fill_shared.specs.declared.Filled.the-variants.{Labelled}

@@ -11,8 +11,9 @@ use lib.ListN.{length}
 use mir.Facts.{toZ-ofZ}
 use mir.Syntax.{w64}
 use mir.Val.{toZ, ofZ}
+use Rattle.calendar.specs.Limits.{poolLimit}
 use Rattle.calendar.specs.Meaning.{Row}
-use Rattle.calendar.specs.Checks.{sound}
+use Rattle.calendar.specs.Sound.{sound}
 use Rattle.kinds.specs.declared.Alteration.{Alteration}
 use Rattle.alter_granules.specs.declared.Repeat.{Repeat}
 use Rattle.kinds.specs.declared.Kind.the-variants.{Alter}
@@ -97,16 +98,16 @@ as-filled c new r h =
     fills-two (Alter (by c)) (Alter (by c)) refl (s .args .a) (s .args .b) (s .args .span) (s .args .at) (s .args .period) _ _ (c .before .before .before .before .before .end-of .ensures) (a-is c) _ (c .before .before .end-of2 .ensures) (b-is c) new r h
 
 -- the parts that are lent lie in the pool
-pub a-part : (c : Told) (new : List ℤ) → length new ≡ length (old c) → (A c .start ≤ A c .end) × (A c .end ≤ length new) × (A c .end ≤ 1048576)
+pub a-part : (c : Told) (new : List ℤ) → length new ≡ length (old c) → (A c .start ≤ A c .end) × (A c .end ≤ length new) × (A c .end ≤ poolLimit)
 a-part c new e = let l = first c .lends in (l .a-start, omega (arith, l .a-end, l .room), omega (arith, l .a-end, l .room, l .few))
 
-pub b-part : (c : Told) (new : List ℤ) → length new ≡ length (old c) → (B c .start ≤ B c .end) × (B c .end ≤ length new) × (B c .end ≤ 1048576)
+pub b-part : (c : Told) (new : List ℤ) → length new ≡ length (old c) → (B c .start ≤ B c .end) × (B c .end ≤ length new) × (B c .end ≤ poolLimit)
 b-part c new e = let l = first c .lends in (l .b-start, omega (arith, l .b-end, l .room), omega (arith, l .b-end, l .room, l .few))
 
-a-fits : (c : Told) → (A c .start ≤ A c .end) × (A c .end ≤ length (old c)) × (A c .end ≤ 1048576)
+a-fits : (c : Told) → (A c .start ≤ A c .end) × (A c .end ≤ length (old c)) × (A c .end ≤ poolLimit)
 a-fits c = a-part c (old c) refl
 
-b-fits : (c : Told) → (B c .start ≤ B c .end) × (B c .end ≤ length (old c)) × (B c .end ≤ 1048576)
+b-fits : (c : Told) → (B c .start ≤ B c .end) × (B c .end ≤ length (old c)) × (B c .end ≤ poolLimit)
 b-fits c = b-part c (old c) refl
 
 -- ---- n and D, and where the scan starts

@@ -12,7 +12,7 @@ use mir.Syntax.{w64}
 use mir.Val.{SFits, toZ, ofZ}
 use Rattle.integers.proofs.Linear.{ints, _∴_}
 use Rattle.integers.proofs.Machine.{plain, test-lt}
-use Rattle.calendar.specs.Checks.{sound}
+use Rattle.calendar.specs.Sound.{sound}
 use Rattle.cursors.proofs.Numbers.{read-as}
 use Rattle.alter_granules.specs.declared.ahead.Walk.{Walk}
 use Rattle.alter_granules.specs.declared.behind.Place.{Place}

@@ -15,8 +15,9 @@ use mir.Syntax.{w32, w64}
 use mir.Val.{SFits, toZ, ofZ}
 use Rattle.integers.proofs.Linear.{ints, _∴_}
 use Rattle.integers.proofs.Machine.{plain, widened, test-not-lt}
+use Rattle.calendar.specs.Limits.{poolLimit}
 use Rattle.calendar.specs.Meaning.{meant}
-use Rattle.calendar.specs.Checks.{sound}
+use Rattle.calendar.specs.Sound.{sound}
 use Rattle.cursors.specs.Cursor.{cursorAt}
 use Rattle.cursors.proofs.Numbers.{read-as, numbers}
 use Rattle.cursors.proofs.Bounds.{label-bound}
@@ -56,7 +57,7 @@ back-fits d =
     let l = asked-at d in
     let k = base l in
     let n = turns l in
-    label-bound (A k .period) (A k .distance) (a-in l (before l) .cells) (a-sound k) 1048576 (pos (l .loop .reached .t)) (label (read-of d)) (simp ints (omega arith)) (early (in-of (read-of d)) ∴ simp ints (omega arith)) (label-is (read-of d) (before l) (holds l))
+    label-bound (A k .period) (A k .distance) (a-in l (before l) .cells) (a-sound k) poolLimit (pos (l .loop .reached .t)) (label (read-of d)) (simp ints (omega arith)) (early (in-of (read-of d)) ∴ simp ints (omega arith)) (label-is (read-of d) (before l) (holds l))
     ∴ n .coarse-low
     ∴ n .middle
     ∴ n .fine-high
@@ -134,7 +135,7 @@ back-before c =
     let f = found-back c x h in
     place-behind (by l) (rep l) (a-in l x) (b-in l x) (h .alterable) (l .loop .reached .t) (followed l) (h .follows) (label (read-of d)) (label-is (read-of d) x h) (behind-end (past-of c)) (place c) (f .0) (f .1)
 
-back-index : (c : Sought) → let l = asked-at (asked-of c) in (entry (base l) .args .at + place c .index < length (l .loop .pool)) × (length (l .loop .pool) ≤ 1048576)
+back-index : (c : Sought) → let l = asked-at (asked-of c) in (entry (base l) .args .at + place c .index < length (l .loop .pool)) × (length (l .loop .pool) ≤ poolLimit)
 back-index c = let h = index (in-of (read-of (asked-of c))) in (omega (arith, h .0, back-before c), h .1)
 
 pub add-back : tie.Need-add-back Inv-loop μ-loop

@@ -11,8 +11,9 @@ use lib.ListN.{length}
 use mir.Syntax.{w64}
 use mir.Val.{SFits}
 use Rattle.integers.proofs.Linear.{ints, _∴_}
+use Rattle.calendar.specs.Limits.{poolLimit}
 use Rattle.calendar.specs.Meaning.{Row, meant}
-use Rattle.calendar.specs.Checks.{sound}
+use Rattle.calendar.specs.Sound.{sound}
 use Rattle.cursors.specs.Cursor.{cursorAt, Shown}
 use Rattle.kinds.specs.declared.Alteration.{Alteration}
 use Rattle.alter_granules.specs.declared.Repeat.{Repeat}
@@ -66,20 +67,20 @@ holds l = l .loop .inv (before l) (started (l .before .before))
 pub same : (l : At) → length (l .loop .pool) ≡ length (before l)
 same l = turn-length _ _ _ _ _ _ _ _ _ (holds l .stage .turn)
 
-pub a-part : (l : At) → let k = A (base l) in (k .start ≤ k .end) × (k .end ≤ length (l .loop .pool)) × (k .end ≤ 1048576)
+pub a-part : (l : At) → let k = A (base l) in (k .start ≤ k .end) × (k .end ≤ length (l .loop .pool)) × (k .end ≤ poolLimit)
 a-part l = begun.a-part (base l) (l .loop .pool) (same l)
 
-pub b-part : (l : At) → let k = B (base l) in (k .start ≤ k .end) × (k .end ≤ length (l .loop .pool)) × (k .end ≤ 1048576)
+pub b-part : (l : At) → let k = B (base l) in (k .start ≤ k .end) × (k .end ≤ length (l .loop .pool)) × (k .end ≤ poolLimit)
 b-part l = begun.b-part (base l) (l .loop .pool) (same l)
 
 -- the instant is before the last one
 pub inside : (c : In) → at-of c .loop .reached .t < entry (base (at-of c)) .args .period
 inside c = c .if1 .taken
 
-pub index : (c : In) → let l = at-of c in (entry (base l) .args .at + l .loop .reached .t < length (l .loop .pool)) × (length (l .loop .pool) ≤ 1048576)
+pub index : (c : In) → let l = at-of c in (entry (base l) .args .at + l .loop .reached .t < length (l .loop .pool)) × (length (l .loop .pool) ≤ poolLimit)
 index c = turn-index _ _ _ _ _ _ _ _ _ (holds (at-of c) .stage .turn) (inside c)
 
-pub early : (c : In) → at-of c .loop .reached .t ≤ 1048576
+pub early : (c : In) → at-of c .loop .reached .t ≤ poolLimit
 early c = let h = index c in omega arith
 
 module _ (l : At) (x : List ℤ) (h : Holds l x) where

@@ -15,7 +15,8 @@ use mir.Val.{SFits, toZ, ofZ}
 use Rattle.integers.proofs.Linear.{ints, _∴_}
 use Rattle.integers.proofs.Machine.{plain}
 use Rattle.calendar.specs.Compute.{result}
-use Rattle.calendar.specs.Checks.{inRange, sound}
+use Rattle.calendar.specs.Limits.{inRange, poolLimit}
+use Rattle.calendar.specs.Sound.{sound}
 use Rattle.cursors.specs.Found.{Near}
 use Rattle.kinds.specs.declared.Kind.the-variants.{Group}
 use Rattle.kinds.specs.Operations.{operationOf}
@@ -101,7 +102,7 @@ room : (c : In-loop) → let l = c .before in l .loop .t + (lent (l .before) .en
 room c = let l = c .before in has-turn _ (lent (l .before)) _ _ _ _ _ _ _ (l .loop .inv .0 .1) (l .loop .inv .1) (c .loop-test .taken)
 
 index : (c : In-loop) → let l = c .before in let a = lent (l .before) in let s = entry (l .before) in
-    (a .start + (a .end - a .start) ≤ s .args .at + l .loop .t) × (s .args .at + l .loop .t + (a .end - a .start) ≤ length (l .loop .pool)) × (length (l .loop .pool) ≤ 1048576)
+    (a .start + (a .end - a .start) ≤ s .args .at + l .loop .t) × (s .args .at + l .loop .t + (a .end - a .start) ≤ length (l .loop .pool)) × (length (l .loop .pool) ≤ poolLimit)
 index c =
     let h = c .before .loop .inv .0 .1 in
     let e = turn-length _ _ _ _ _ _ _ _ _ h in

@@ -19,7 +19,7 @@ use Rattle.integers.proofs.Machine.{plain, test-eq}
 use Rattle.calendar.specs.Meaning.{raise, empty}
 use Rattle.calendar.specs.Lists.{ifLabel}
 use Rattle.calendar.specs.Compute.{cellOf}
-use Rattle.calendar.specs.Checks.{inRange}
+use Rattle.calendar.specs.Limits.{inRange}
 use Rattle.granules.proofs.Tests.{and-iff, leZ-iff, true≢false}
 use Rattle.cursors.proofs.Cells.{label-empty}
 use Rattle.fill_shared.specs.declared.Known.{Known}

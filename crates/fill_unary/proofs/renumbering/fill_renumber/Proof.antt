@@ -16,7 +16,7 @@ use mir.Syntax.{w32, w64}
 use mir.Val.{SFits, toZ, ofZ}
 use Rattle.integers.proofs.Machine.{plain, test-eq, widened}
 use Rattle.calendar.specs.Meaning.{Row, meant, labelOf, empty}
-use Rattle.calendar.specs.Checks.{inRange}
+use Rattle.calendar.specs.Limits.{inRange, poolLimit}
 use Rattle.cursors.proofs.Numbers.{read-as}
 use Rattle.cursors.proofs.Cells.{label-empty, label-full}
 use Rattle.fill_shared.proofs.Working.{range-fits}
@@ -34,7 +34,7 @@ abbrev told : At-loop → Told
 told l = l .before .before .before .before .before .before .before
 
 index : (c : tie.In-loop Inv-loop μ-loop) → let l = c .before in let s = entry (told l) in
-    (s .args .a .start + l .loop .t < length (l .loop .pool)) × ((s .args .at + l .loop .t < length (l .loop .pool)) × (length (l .loop .pool) ≤ 1048576))
+    (s .args .a .start + l .loop .t < length (l .loop .pool)) × ((s .args .at + l .loop .t < length (l .loop .pool)) × (length (l .loop .pool) ≤ poolLimit))
 index c = renumbers-index (c .before .loop .inv .0) (c .loop-test .taken)
 
 add-cell : tie.Need-add-cell Inv-loop μ-loop

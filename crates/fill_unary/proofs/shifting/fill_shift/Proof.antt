@@ -13,6 +13,7 @@ use mir.Facts.{toZ-ofZ}
 use mir.Syntax.{w32, w64}
 use mir.Val.{SFits, toZ, ofZ}
 use Rattle.integers.proofs.Linear.{ints, _∴_}
+use Rattle.calendar.specs.Limits.{poolLimit}
 use Rattle.calendar.specs.Meaning.{labelOf, raise}
 use Rattle.calendar.specs.Operation.Unary.{shift}
 use Rattle.calendar.specs.Operation.Operation.{unary}
@@ -64,7 +65,7 @@ turn : (l : At-loop) → let s = l .before in Shifted (unary (shift (X s)) (rowI
 turn l = l .loop .inv (l .before .args .a) refl (shifts (l .before))
 
 index : (c : tie.In-loop Inv-loop μ-loop) → let l = c .before in let s = l .before in
-    (s .args .a .start + l .loop .t < length (l .loop .pool)) × ((s .args .at + l .loop .t < length (l .loop .pool)) × (length (l .loop .pool) ≤ 1048576))
+    (s .args .a .start + l .loop .t < length (l .loop .pool)) × ((s .args .at + l .loop .t < length (l .loop .pool)) × (length (l .loop .pool) ≤ poolLimit))
 index c = shifted-index (shifts (c .before .before)) (turn (c .before)) (c .loop-test .taken)
 
 add-shifted : tie.Need-add-shifted Inv-loop μ-loop

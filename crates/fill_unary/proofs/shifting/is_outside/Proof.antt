@@ -13,7 +13,7 @@ use mir.ValLaws.{toZ-ofZ}
 use Rattle.integers.proofs.Machine.{test-eq, test-lt, test-not-le}
 use Rattle.calendar.specs.Meaning.{labelOf, empty}
 use Rattle.calendar.specs.Lists.{ifLabel}
-use Rattle.calendar.specs.Checks.{inRange, limit}
+use Rattle.calendar.specs.Limits.{inRange, labelLimit}
 use Rattle.granules.proofs.Tests.{not-iff, test-ext}
 use Rattle.cursors.proofs.Cells.{label-empty, label-full}
 use Rattle.fill_unary.proofs.shifting.is_outside.Statement.{statement}
@@ -31,8 +31,8 @@ either false true = refl
 either false false = refl
 
 -- above the limits or below them
-above-or-below : (z : ℤ) → ltZ limit z || ltZ z (negℤ limit) ≡ not (inRange z)
-above-or-below z = rw (turned z limit, turned (negℤ limit) z) (either (leZ (negℤ limit) z) (leZ z limit))
+above-or-below : (z : ℤ) → ltZ labelLimit z || ltZ z (negℤ labelLimit) ≡ not (inRange z)
+above-or-below z = rw (turned z labelLimit, turned (negℤ labelLimit) z) (either (leZ (negℤ labelLimit) z) (leZ z labelLimit))
 
 cast-if2 : tie.Need-cast-if2
 cast-if2 c = search needs
@@ -55,14 +55,14 @@ returns-2 c =
     let f = c .before .before .fits .cell in
     let z = c .before .before .args .cell in
     let t = simp toZ-ofZ at (c .if2 .taken) in
-    simp toZ-ofZ (t ∙ sym (ap (λ (b : Bool). b || ltZ z (negℤ limit)) t) ∙ above-or-below z ∙ label-is (c .before))
+    simp toZ-ofZ (t ∙ sym (ap (λ (b : Bool). b || ltZ z (negℤ labelLimit)) t) ∙ above-or-below z ∙ label-is (c .before))
 
 returns-3 : tie.Need-returns-3
 returns-3 c =
     let f = c .before .before .fits .cell in
     let z = c .before .before .args .cell in
     let t = simp toZ-ofZ at (c .if2 .left) in
-    simp toZ-ofZ (sym (ap (λ (b : Bool). b || ltZ z (negℤ limit)) t) ∙ above-or-below z ∙ label-is (c .before))
+    simp toZ-ofZ (sym (ap (λ (b : Bool). b || ltZ z (negℤ labelLimit)) t) ∙ above-or-below z ∙ label-is (c .before))
 
 pub is-outside-spec : {M : Type 1} → statement M
 is-outside-spec = tie.close (tie.spec cast-if2 cast-result returns returns-2 returns-3)

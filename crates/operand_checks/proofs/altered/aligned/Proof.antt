@@ -23,7 +23,7 @@ use Rattle.operand_checks.specs.declared.Checked.the-variants.{Refused}
 use Rattle.operand_checks.specs.Admission.{checkedOf}
 use Rattle.operand_checks.specs.Shared.{fitted, alterExtent, behindSpan}
 use Rattle.operand_checks.proofs.Naturals.{up-mono}
-use Rattle.operand_checks.proofs.Kept.{known, fine-positive}
+use Rattle.operand_checks.proofs.Kept.{known, fine-positive, fine-at-least}
 use Rattle.operand_checks.proofs.Replies.{passed, failed, behind-is}
 use Rattle.operand_checks.proofs.altered.aligned.Statement.{statement}
 use Rattle.operand_checks.proofs.altered.aligned.Tie as tie
@@ -139,7 +139,10 @@ sized-requires c κs =
     let d =
     fine-positive (up (by .x)) (up (by .y)) (by .z) (row-a s) (row-b s) (valids s) (s .pre .1 .1 .1 .1 .0) (s .pre .1 .1 .1 .1 .1 .0) (partition-holds e)
     (up-mono (s .pre .0 .x-low)) (kept c) in
-    simp plain (s .pre .0, (s .pre .1 .0, (limited _ _ _ (s .pre .1 .1 .0), (limited _ _ _ (s .pre .1 .1 .1 .0), (l .is-span, (l .at-most, d))))))
+    let e′ =
+    fine-at-least (up (by .x)) (up (by .y)) (by .z) (row-a s) (row-b s) (valids s) (s .pre .1 .1 .1 .1 .0) (s .pre .1 .1 .1 .1 .1 .0) (partition-holds e)
+    (up-mono (s .pre .0 .x-low)) (kept c) in
+    simp plain (s .pre .0, (s .pre .1 .0, (limited _ _ _ (s .pre .1 .1 .0), (limited _ _ _ (s .pre .1 .1 .1 .0), (l .is-span, (l .at-most, (d, e′)))))))
 
 returns-3 : tie.Need-returns-3
 returns-3 c =

@@ -22,8 +22,8 @@ use Rattle.sizes.proofs.Altered.{alter-turn-is}
 use Rattle.operand_checks.specs.declared.Checked.the-variants.{Refused, Passed}
 use Rattle.operand_checks.specs.Admission.{checkedOf}
 use Rattle.operand_checks.specs.Shared.{turnFor}
-use Rattle.operand_checks.proofs.Naturals.{Natural, natural, stored, distance-limit}
-use Rattle.operand_checks.proofs.Alters.{x-fits, z-fits, alterable, fine-fits, distance-half}
+use Rattle.operand_checks.proofs.Naturals.{Natural, natural, up-mono, stored}
+use Rattle.operand_checks.proofs.Alters.{x-fits, z-fits, alterable, fine-fits, distance-short}
 use Rattle.operand_checks.proofs.Spans.{capped-past, capped-passes, capped-half, capped-fits}
 use Rattle.operand_checks.proofs.Replies.{passed, failed, same-extent}
 use Rattle.operand_checks.proofs.altered.sized.Statement.{statement}
@@ -115,7 +115,7 @@ ready : (c : tie.After-altering-of) → Stored (c .before .before .before .befor
 ready c =
     let t = c .before .before .before .before .before in
     let s = t .before in
-    rw (turn-is t, fine-read c) (stored (s .pre .1 .1 .0), s .pre .1 .1 .1 .1 .1 .1)
+    rw (turn-is t, fine-read c) (stored (s .pre .1 .1 .0), s .pre .1 .1 .1 .1 .1 .1 .0)
 
 alter-period-requires : tie.Need-alter-period-requires
 alter-period-requires c κs = ready (c .before)
@@ -162,7 +162,14 @@ distance-below : (c : tie.After-alter-distance) → c .alter-distance .result < 
 distance-below c =
     let n = c .before .before .before .before .before .before .before in
     let s = n .before .before .before .before .before .before in
-    omega (arith, distance-is c, distance-half (fine-row s) (coarse s) (fine s) (distance-limit (s .pre .1 .1 .0)) (rw (coarse-is n) at (n .altering-of .ensures .1 .1)))
+    let k = c .before .before in
+    let r = stored (s .pre .1 .1 .0) in
+    let d = s .pre .1 .1 .1 .1 .1 .1 in
+    let h = capped-half (s .pre .1 .0) _ (within k) in
+    let e = within-is (within k) .0 in
+    let w : working s .period ≡ alterPeriod (fine-row s) (fine s) = ap (λ (a : Size.Turn). a .period) (working-is s) in
+    let l = distance-short (fine-row s) (coarse s) (fine s) (up-mono (d .0)) (r .positive) (r .distance-at-most) (up-mono (d .1)) in
+    omega (arith, distance-is c, h, e, w, l)
 
 cast-t18 : tie.Need-cast-t18
 cast-t18 c =

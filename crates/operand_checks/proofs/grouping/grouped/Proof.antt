@@ -15,6 +15,7 @@ use Rattle.integers.proofs.Order.{pos-up}
 use Rattle.integers.proofs.Divisors.{gcd-pos}
 use Rattle.integers.proofs.Cap.{within-is}
 use Rattle.integers.proofs.Machine.{plain}
+use Rattle.calendar.specs.Limits.{poolLimit}
 use Rattle.calendar.specs.Operation.Unary.{group}
 use Rattle.calendar.specs.Size as Size
 use Rattle.calendar.specs.Size.{periodUnary}
@@ -111,7 +112,7 @@ distance-is c =
     ap₂ (λ (a : Turn) (g : ℕ). a .distance / g) (turn-is t) (common-is (c .before))
 
 distance-fits : (c : tie.After-struct-known) → let t = c .before .before .before .before .before .before in
-    t .turn-of .result .distance / c .before .gcd .result ≤ 1048576
+    t .turn-of .result .distance / c .before .gcd .result ≤ poolLimit
 distance-fits c =
     let s = c .before .before .before .before .before .before .before in
     omega (arith, distance-is c, div-le-self (up (s .args .distance)) (gcd (up (s .args .x)) (up (s .args .distance))), distance-limit (s .pre .1 .1))
@@ -130,7 +131,7 @@ returns-2 c =
     ap Passed (same-extent (simp plain (sym (pos-up (s .pre .1 .1 .low ∴ s .pre .1 .1 .middle ∴ simp ints (omega arith))))) (simp plain (ap pos (w .0))) (simp plain (ap pos (distance-is c))))
     ∙ sym (ap checkedOf (grouped-passes (up (s .args .x)) (row s) (up (s .args .room)) (positive s) (w .1)))
   where
-    half : {n : ℕ} → n ≤ 1048576 → n < 2 ^ 63
+    half : {n : ℕ} → n ≤ poolLimit → n < 2 ^ 63
     half h = omega arith
 
 pub grouped-spec : {M : Type 1} → statement M

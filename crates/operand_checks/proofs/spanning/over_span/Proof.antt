@@ -9,6 +9,7 @@ use Rattle.integers.specs.Parts.{up}
 use Rattle.integers.proofs.Linear.{ints, _∴_}
 use Rattle.integers.proofs.Order.{pos-up}
 use Rattle.integers.proofs.Machine.{plain}
+use Rattle.calendar.specs.Limits.{poolLimit}
 use Rattle.calendar.specs.Size.{rise}
 use Rattle.sizes.specs.declared.Turn.{Turn}
 use Rattle.sizes.specs.Stored.{turnOf, Stored}
@@ -42,7 +43,7 @@ rise-requires c κs =
 rise-is : (c : tie.After-rise) → c .rise .result ≡ rise (turnOf (turnFor (c .before .before .args .period) (c .before .before .args .distance))) (up (c .before .before .args .span))
 rise-is c = c .rise .ensures ∙ ap₂ (λ (t : Turn) (s : ℕ). rise (turnOf t) s) (turn-is (c .before)) (span-natural (c .before .before) .is)
 
-rise-limit : (c : tie.After-rise) → c .rise .result ≤ 1048576
+rise-limit : (c : tie.After-rise) → c .rise .result ≤ poolLimit
 rise-limit c =
     let s = c .before .before in
     let a = s .args in

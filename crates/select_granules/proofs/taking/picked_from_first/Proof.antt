@@ -13,7 +13,7 @@ use Rattle.integers.proofs.Linear.{ints, _∴_}
 use Rattle.integers.proofs.Machine.{plain}
 use Rattle.calendar.specs.Meaning.{Row}
 use Rattle.calendar.specs.Questions.{given}
-use Rattle.calendar.specs.Table.{million}
+use Rattle.calendar.specs.Limits.{million}
 use Rattle.granules.specs.Valid.{Valid}
 use Rattle.granules.proofs.Questions.{first-at-most}
 use Rattle.cursors.proofs.Numbers.{valid}

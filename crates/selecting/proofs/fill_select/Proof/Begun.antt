@@ -9,8 +9,9 @@ use native.Mathlib.Omega.{arith}
 use lib.IntN.{ℤ, pos}
 use lib.ListN.{length}
 use Rattle.integers.proofs.Machine.{plain}
+use Rattle.calendar.specs.Limits.{poolLimit}
 use Rattle.calendar.specs.Meaning.{Row}
-use Rattle.calendar.specs.Checks.{sound}
+use Rattle.calendar.specs.Sound.{sound}
 use Rattle.cursors.specs.Cursor.{cursorAt}
 use Rattle.kinds.specs.declared.Selection.{Selection}
 use Rattle.kinds.specs.declared.Kind.the-variants.{Select}
@@ -88,10 +89,10 @@ pub b-sound : (k : Base) → sound (b-row k) ≡ true
 b-sound k = start k .lends .is-given .sounds .1
 
 -- the parts that are lent lie in the pool
-pub a-part : (k : Base) (new : List ℤ) → length new ≡ length (old k) → (A k .start ≤ A k .end) × (A k .end ≤ length new) × (A k .end ≤ 1048576)
+pub a-part : (k : Base) (new : List ℤ) → length new ≡ length (old k) → (A k .start ≤ A k .end) × (A k .end ≤ length new) × (A k .end ≤ poolLimit)
 a-part k new e = let l = start k .lends in (l .a-start, omega (arith, l .a-end, l .room), omega (arith, l .a-end, l .room, l .few))
 
-pub b-part : (k : Base) (new : List ℤ) → length new ≡ length (old k) → (B k .start ≤ B k .end) × (B k .end ≤ length new) × (B k .end ≤ 1048576)
+pub b-part : (k : Base) (new : List ℤ) → length new ≡ length (old k) → (B k .start ≤ B k .end) × (B k .end ≤ length new) × (B k .end ≤ poolLimit)
 b-part k new e = let l = start k .lends in (l .b-start, omega (arith, l .b-end, l .room), omega (arith, l .b-end, l .room, l .few))
 
 -- ---- up to the first label
@@ -106,11 +107,11 @@ led c =
     let k = c .before .before in
     turn-led _ (A k) (B k) _ _ (old k) (a-row k) _ _ (start k) (c .fill-leading .ensures) (unlabelled (by k) (A k) (B k) (entry k .args .at) (entry k .args .period) (old k))
 
-pub led-part : (c : tie.After-fill-leading Inv-loop μ-loop) → let k = c .before .before in (B k .start ≤ B k .end) × (B k .end ≤ length (led-pool c)) × (B k .end ≤ 1048576)
+pub led-part : (c : tie.After-fill-leading Inv-loop μ-loop) → let k = c .before .before in (B k .start ≤ B k .end) × (B k .end ≤ length (led-pool c)) × (B k .end ≤ poolLimit)
 led-part c = b-part (c .before .before) (led-pool c) (turn-length _ _ _ _ _ _ _ _ _ (led c))
 
 -- how far that is
-pub led-few : (c : tie.After-fill-leading Inv-loop μ-loop) → c .fill-leading .result .t ≤ 1048576
+pub led-few : (c : tie.After-fill-leading Inv-loop μ-loop) → c .fill-leading .result .t ≤ poolLimit
 led-few c = let l = led c .lends in omega (arith, c .fill-leading .ensures .follows .in-room, l .room, l .few)
 
 -- what holds before the loop

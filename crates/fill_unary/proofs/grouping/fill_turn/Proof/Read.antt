@@ -15,7 +15,7 @@ use mir.Val.{SFits, toZ, ofZ}
 use Rattle.integers.proofs.Linear.{ints, _∴_}
 use Rattle.integers.proofs.Machine.{plain, widened}
 use Rattle.calendar.specs.Meaning.{labelOf, raise, empty}
-use Rattle.calendar.specs.Checks.{inRange}
+use Rattle.calendar.specs.Limits.{inRange, poolLimit}
 use Rattle.cursors.specs.Found.{Within}
 use Rattle.cursors.proofs.Cells.{label-full, getD-any}
 use Rattle.fill_shared.specs.declared.Known.{Known}
@@ -66,7 +66,7 @@ pub kept-length : (l : At-loop) → length (l .loop .pool) ≡ length (l .before
 kept-length l = let s = l .before in ap length (l .loop .inv .0 .is-new) ∙ grouped-length (factor s) (lift s) (s .args .start) (s .args .to) (s .args .pool .now) (l .loop .i)
 
 pub index : (c : In-loop) → let l = c .before in let s = l .before in
-    (s .args .start + l .loop .i < s .args .to) × (s .args .to + l .loop .i < length (l .loop .pool)) × (length (l .loop .pool) ≤ 1048576)
+    (s .args .start + l .loop .i < s .args .to) × (s .args .to + l .loop .i < length (l .loop .pool)) × (length (l .loop .pool) ≤ poolLimit)
 index c =
     let l = c .before in
     let p = l .before .pre .1 .1 .0 in

@@ -11,6 +11,7 @@ use lib.ListN.{length}
 use mir.Facts.{toZ-ofZ}
 use mir.Syntax.{w64}
 use mir.Val.{toZ, ofZ}
+use Rattle.calendar.specs.Limits.{poolLimit}
 use Rattle.kinds.specs.declared.Kind.the-variants.{Renumber}
 use Rattle.kinds.specs.Operations.{operationOf}
 use Rattle.kinds.specs.Stands.{rowIn}
@@ -61,7 +62,7 @@ as-filled c new r h = let s = entry c in fills-one (Renumber (toZ w64 (ofZ w64 (
 
 -- ---- the last label before the instant 0, and its number
 
-lent-end : (c : Told) → let s = entry c in (c .before .before .end-of .result ≤ length (s .args .pool .now)) × (length (s .args .pool .now) ≤ 1048576)
+lent-end : (c : Told) → let s = entry c in (c .before .before .end-of .result ≤ length (s .args .pool .now)) × (length (s .args .pool .now) ≤ poolLimit)
 lent-end c = let l = first c .lends in (omega (arith, l .a-end, l .room), l .few)
 
 pub mul-last-before : tie.Need-mul-last-before Inv-loop μ-loop

@@ -51,7 +51,7 @@ rules c = let s = begun c in valid (s .args .h-period) (s .args .h-distance) (s 
 labelled : (c : tie.After-known-told) → let s = begun (checks c) in meant (h-row s) (instant c) ≡ some (s .args .z)
 labelled c = let s = begun (checks c) in instantOf-labelled (h-row s) (rules (checks c)) (s .args .z) (instant c) (is-found c)
 
-near : (c : tie.After-known-told) → Within (2 ^ 52) (instant c)
+near : (c : tie.After-known-told) → Within (2 ^ 54) (instant c)
 near c = c .before .before .before .instant-of .ensures .1 (instant c) (ap found (c .before .instant .given .1))
 
 pub first-instant-requires : tie.Need-first-instant-requires

@@ -10,7 +10,8 @@ use Rattle.integers.proofs.Machine.{plain}
 use Rattle.calendar.specs.Meaning.{Row}
 use Rattle.calendar.specs.Lists.{isSome}
 use Rattle.calendar.specs.Granules.{instantOf, has}
-use Rattle.calendar.specs.Checks.{sound, inRange}
+use Rattle.calendar.specs.Sound.{sound}
+use Rattle.calendar.specs.Limits.{inRange}
 use Rattle.calendar.specs.Questions.{given}
 use Rattle.granules.proofs.Tests.{not-iff}
 use Rattle.cursors.specs.Found.{found}

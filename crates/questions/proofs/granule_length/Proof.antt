@@ -1,7 +1,7 @@
--- `questions::extent` meets its contract: its numbers are the last and the first instant, and a granule is not longer than a period.
+-- `questions::granule_length` meets its contract: its numbers are the last and the first instant, and a granule is not longer than a period.
 use borrow.Author.Needs.{needs, sfits-of}
 use mathlib.Core.Path.{_≡_, sym, _∙_, ap, ap₂, subst}
-use Prim.Native.Nat.{ℕ, _≤_, _<_, _^_}
+use Prim.Native.Nat.{ℕ, _≤_}
 use native.Mathlib.Omega.{arith}
 use lib.IntN.{ℤ, pos, natAbs, _+ℤ_, _-ℤ_}
 use mir.Facts.{toZ-ofZ}
@@ -9,17 +9,18 @@ use mir.Syntax.{w64}
 use mir.Val.{SFits, ofZ, toZ}
 use Rattle.integers.proofs.Linear.{ints, _∴_}
 use Rattle.integers.proofs.Machine.{plain}
+use Rattle.calendar.specs.Limits.{poolLimit}
 use Rattle.calendar.specs.Meaning.{Row, meant, Has}
 use Rattle.calendar.specs.Lists.{first, last}
 use Rattle.calendar.specs.Granules.{granule}
-use Rattle.calendar.specs.Questions.{given, extent}
+use Rattle.calendar.specs.Questions.{given, granuleLength}
 use Rattle.granules.specs.Valid.{Valid}
 use Rattle.granules.proofs.Tests.{some-inj}
-use Rattle.granules.proofs.Questions.{extent-positive, extent-at-most}
+use Rattle.granules.proofs.Questions.{length-positive, length-at-most}
 use Rattle.cursors.proofs.Numbers.{valid, numbers, read-as}
 use Rattle.questions.proofs.Lengths.{length-is, cast}
-use Rattle.questions.proofs.extent.Statement.{statement}
-use Rattle.questions.proofs.extent.Tie as tie
+use Rattle.questions.proofs.granule_length.Statement.{statement}
+use Rattle.questions.proofs.granule_length.Tie as tie
 
 abbrev row : tie.Start → Row
 row s = given (s .args .period) (s .args .distance) (s .args .cells .now)
@@ -29,7 +30,7 @@ abbrev own : tie.Start → ℤ
 own s = s .pre .1 .0 .0
 
 abbrev length : tie.Start → ℕ
-length s = extent (row s) (own s)
+length s = granuleLength (row s) (own s)
 
 rules : (s : tie.Start) → Valid (row s)
 rules s = valid (s .args .period) (s .args .distance) (s .args .cells .now) (s .pre .0)
@@ -37,10 +38,10 @@ rules s = valid (s .args .period) (s .args .distance) (s .args .cells .now) (s .
 held : (s : tie.Start) → Has (meant (row s)) (own s)
 held s = (s .args .t, s .pre .1 .0 .1)
 
-bounds : (s : tie.Start) → (1 ≤ length s) × (length s ≤ 1048576)
+bounds : (s : tie.Start) → (1 ≤ length s) × (length s ≤ poolLimit)
 bounds s =
     let n = numbers (s .args .period) (s .args .distance) (s .args .cells .now) (s .pre .0) in
-    (extent-positive (row s) (rules s) (own s) (held s), omega (arith, n .high, extent-at-most (row s) (rules s) (own s) (held s)))
+    (length-positive (row s) (rules s) (own s) (held s), omega (arith, n .high, length-at-most (row s) (rules s) (own s) (held s)))
 
 first-instant-requires : tie.Need-first-instant-requires
 first-instant-requires c κs = search needs
@@ -100,10 +101,10 @@ cast-result : tie.Need-cast-result
 cast-result c = let s = c .before .before in cast (length s) (read c) (omega (arith, bounds s .1))
 
 returns : tie.Need-returns
-returns c j e = let s = c .before .before in ap natAbs (read c) ∙ ap (extent (row s)) (some-inj (sym (s .pre .1 .0 .1) ∙ e))
+returns c j e = let s = c .before .before in ap natAbs (read c) ∙ ap (granuleLength (row s)) (some-inj (sym (s .pre .1 .0 .1) ∙ e))
 
-pub extent-spec : {M : Type 1} → statement M
-extent-spec =
+pub granule_length-spec : {M : Type 1} → statement M
+granule_length-spec =
     tie.close
     (tie.spec
     first-instant-requires
