@@ -69,7 +69,7 @@ module _ (period distance : ℤ) (cells : List ℤ) (s : Sound period distance c
   count-fits b lo hi =
       let v = valid period distance cells s in
       let l = latest v k in
-      let near = latest-bound period distance cells s t low l lo hi in
+      let near = latest-bound period distance cells s t low l lo (hi ∴ simp ints (omega arith)) in
       number-bound (given period distance cells) v (2 ^ 30) x low (is-label l) (b ∴ simp ints (omega arith)) near
       ∴ near
       ∴ k .numbered
