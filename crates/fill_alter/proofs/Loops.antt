@@ -87,8 +87,8 @@ module _ (by : Alteration) (repeat : Repeat) (a b : Lent) (at period : ℕ) (old
     altering-done m =
         let o = altering by (rowOf a old) (rowOf b old) in
         let d = turn-done (Alter by) a b at period old new (h .labelled) (p .t) (h .stage .turn) m in
-        let e = filled-labelled (unlabelled o) (labelsInRange o) (some-labelled by repeat (rowOf a old) (rowOf b old) (h .alterable)) (h .labelled) (d .0) in
-        (ap (λ (x : Bool). cond x Labelled Unlabelled) (sym e) ∙ d .0, d .1)
+        let e = filled-labelled (unlabelled o) (labelsInRange o) (some-labelled by repeat (rowOf a old) (rowOf b old) (h .alterable)) (h .labelled) (d .answer) in
+        record { answer = ap (λ (x : Bool). cond x Labelled Unlabelled) (sym e) ∙ d .answer; lengths = d .lengths; before = d .before; row = d .row }
 
     module _ (m : p .t < period) where
       -- the labels of the instants before

@@ -33,7 +33,7 @@ use Rattle.fill_shared.specs.Given.{Given, Written}
 use Rattle.fill_shared.specs.Placed.{Placed, filledAs, Fills}
 use Rattle.fill_shared.proofs.Cells.{same-rows, part-kept}
 use Rattle.fill_shared.proofs.Single.{given-twice, operation-over}
-use Rattle.fill_shared.proofs.Working.{Writes, writes-none, writes-length, new-is, writes-written, writes-more, writes-all, writes-labelled, writes-unlabelled, out-of-range, filled-out}
+use Rattle.fill_shared.proofs.Working.{Writes, writes-none, writes-length, writes-before, new-is, writes-written, writes-more, writes-all, writes-labelled, writes-unlabelled, out-of-range, filled-out}
 
 -- the cells of a row, from the first to the one behind the last, with its period and its distance
 pub record Lent : Type 0 where
@@ -137,8 +137,13 @@ module _ (k : Kind) (a b : Lent) (at period : ℕ) (old : List ℤ) where
         outside none y i = absurd (true≢false refl i)
         outside (some j) y i = (filled-out o t before-end j y i, out-of-range o t before-end j y i)
 
-        pub turn-out : (pool : List ℤ) → length pool ≡ length new → ifLabel l inRange ≡ false → Fills o at period old pool OutOfRange
-        turn-out pool q i = let y = outside l e i in (y .0, (q ∙ turn-length, λ z. absurd (true≢false z (y .1))))
+        pub turn-out : (pool : List ℤ) → pool ≡ new → ifLabel l inRange ≡ false → Fills o at period old pool OutOfRange
+        turn-out pool q i = let y = outside l e i in record {
+          answer = y .0;
+          lengths = ap length q ∙ turn-length;
+          before = ap (take at) q ∙ writes-before o at old r new labelled t (h .writes);
+          row = λ z. absurd (true≢false z (y .1));
+        }
 
     module _ (m : period ≤ t) where
       done : size o .period ≤ t
@@ -149,14 +154,13 @@ module _ (k : Kind) (a b : Lent) (at period : ℕ) (old : List ℤ) where
       answer false e = writes-unlabelled o at old r new labelled t (h .writes) done (sym e)
 
       pub turn-done : Fills o at period old new (cond labelled Labelled Unlabelled)
-      turn-done = (
-        answer labelled refl,
-        (
-          turn-length,
-          λ z. writes-all o at old r new labelled t (h .writes) done
-              ∙ ap (λ (n : ℕ). take at old ++ (working o .cells ++ drop (at + n) old)) (sym (h .lends .is-period)),
-        ),
-      )
+      turn-done = record {
+        answer = answer labelled refl;
+        lengths = turn-length;
+        before = writes-before o at old r new labelled t (h .writes);
+        row = λ z. writes-all o at old r new labelled t (h .writes) done
+            ∙ ap (λ (n : ℕ). take at old ++ (working o .cells ++ drop (at + n) old)) (sym (h .lends .is-period));
+      }
 
 -- ---- a loop over operands of a pool; k is the kind that k' is to the machine
 

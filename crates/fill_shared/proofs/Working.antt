@@ -42,6 +42,10 @@ pub working-at : (o : Operation Row) (u : ℕ) → u < size o .period → getD (
 unfolding working
 working-at o u h = getD-map-from (λ t. cellOf (result o t)) empty (pos 0) (size o .period) u h ∙ ap (λ (t : ℤ). cellOf (result o t)) (simp ints (omega arith))
 
+-- cells written from `at` on leave those before
+pub paste-before : (old : List ℤ) (at : ℕ) (cells : List ℤ) (t : ℕ) → at ≤ length old → take at (paste old at cells t) ≡ take at old
+paste-before old at cells t h = ap (take at) (append-assoc (take at old) (take t cells) (drop (at + t) old)) ∙ take-at (take at old) _ at (length-take-le at old h)
+
 -- a label within the limits is no empty mark
 pub cell-label : (l : Option ℤ) → ifLabel l inRange ≡ true → labelOf (cellOf l) ≡ l
 cell-label none h = refl
@@ -105,6 +109,9 @@ module _ (o : Operation Row) (at : ℕ) (old : List ℤ) (room : at + size o .pe
         let l : at + t ≤ length old = omega (arith, w .at-most) in
         let m : t ≤ length (working o .cells) = omega (arith, w .at-most, working-length o) in
         ap length (w .is-new) ∙ length-paste old at (working o .cells) t l m
+
+    pub writes-before : take at new ≡ take at old
+    writes-before = ap (take at) (w .is-new) ∙ paste-before old at (working o .cells) t (omega arith)
 
     pub new-is : new ≡ take at old ++ (take t (working o .cells) ++ drop (at + t) old)
     new-is = w .is-new ∙ append-assoc (take at old) (take t (working o .cells)) (drop (at + t) old)

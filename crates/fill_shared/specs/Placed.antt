@@ -40,7 +40,9 @@ filledAs o = cond (unlabelled o) Unlabelled (cond (labelsInRange o) Labelled Out
 abbrev pub over : Kind → List ℤ → Operand → Operand → Operation Row
 over kind pool a b = operationOf kind (rowIn pool a) (rowIn pool b)
 
--- what a loop leaves: its answer, and in the pool the working row from the cell `at` on, unless a label is outside the limits
-abbrev pub Fills : Operation Row → ℕ → ℕ → List ℤ → List ℤ → Filled → Type 0
-Fills o at period old new r =
-    (r ≡ filledAs o) × ((length new ≡ length old) × (labelsInRange o ≡ true → new ≡ take at old ++ (working o .cells ++ drop (at + period) old)))
+-- what a loop leaves: its answer, and a pool that has the cells before `at` as they were and, unless a label is outside the limits, the working row from there on
+pub record Fills (o : Operation Row) (at period : ℕ) (old new : List ℤ) (r : Filled) : Type 0 where
+  pub answer : r ≡ filledAs o
+  pub lengths : length new ≡ length old
+  pub before : take at new ≡ take at old
+  pub row : labelsInRange o ≡ true → new ≡ take at old ++ (working o .cells ++ drop (at + period) old)

@@ -1,7 +1,7 @@
 // What the loops share that fill the working row of an operation in, behind the rows that stand in the pool already.
 
 ghost use mathlib.Core.Path.{_≡_};
-ghost use mathlib.Core.Bool.{true, cond, _||_, _&&_};
+ghost use mathlib.Core.Bool.{true, false, cond, _||_, _&&_};
 ghost use Prim.Native.Nat.{_+_, _≤_, _<_};
 ghost use lib.IntN.{pos, negsuc};
 ghost use lib.Signed.{_≤ℤ_, leZ};
@@ -51,12 +51,13 @@ pub fn end_of(a: Operand, at: usize) -> usize
     a.start + a.period as usize
 }
 
-// Writes the cell of a label, or of none, at i; false where the label is outside the limits.
+// Writes the cell of a label, or of none, at i; false, and nothing, where the label is outside the limits.
 pub fn store(label: Found, i: usize, pool: &mut [i32]) -> bool
     requires { ⌜ i < length (now pool) ⌝ }
     ensures within { λ r. ⌜ r ≡ ifLabel (found label) inRange ⌝ }
     ensures length { λ r. ⌜ length (now (pool .exit)) ≡ length (now (pool .entry)) ⌝ }
     ensures cell { λ r. ⌜ (r ≡ true → now (pool .exit) ≡ set (now (pool .entry)) i (cellOf (found label))) ⌝ }
+    ensures kept { λ r. ⌜ (r ≡ false → now (pool .exit) ≡ now (pool .entry)) ⌝ }
 {
     match label {
         Found::At(j) => {

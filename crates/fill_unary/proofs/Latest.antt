@@ -11,6 +11,7 @@ use lib.Signed.{_≤ℤ_, _<ℤ_}
 use Rattle.integers.specs.Parts.{up}
 use Rattle.integers.proofs.Linear.{ints, _∴_}
 use Rattle.integers.proofs.Order.{le-or-lt}
+use Rattle.calendar.specs.Limits.{poolLimit}
 use Rattle.calendar.specs.Meaning.{Row, meant, Has}
 use Rattle.calendar.specs.Granules.{has}
 use Rattle.calendar.specs.Compute.{renumbered, anchored}
@@ -115,7 +116,7 @@ module _ (period distance : ℤ) (cells : List ℤ) (s : Sound period distance c
       let v = valid period distance cells s in
       labelled-near (meant row) (up period) (up distance) (meant-repeats row (v .positive .0)) (v .positive .0) (v .label) (v .labelled) u
 
-  pub latest-bound : pos 0 ≤ℤ t → t ≤ℤ pos (2 ^ 22) → Within (2 ^ 30) p
+  pub latest-bound : pos 0 ≤ℤ t → t ≤ℤ pos poolLimit → Within (2 ^ 30) p
   latest-bound lo hi =
       let v = valid period distance cells s in
       let n = numbers period distance cells s in

@@ -9,6 +9,7 @@ use lib.IntN.{ℤ, pos, negsuc, _+ℤ_, _-ℤ_}
 use lib.Signed.{_≤ℤ_, _<ℤ_}
 use lib.ListN.{length, getD}
 use Rattle.integers.proofs.Linear.{ints, _∴_}
+use Rattle.calendar.specs.Limits.{poolLimit}
 use Rattle.calendar.specs.Meaning.{Row, meant, labelOf, empty}
 use Rattle.calendar.specs.Granules.{has}
 use Rattle.calendar.specs.Compute.{count, anchored}
@@ -82,7 +83,7 @@ module _ {x last period distance : ℤ} {cells : List ℤ} (o : Over x last peri
       -- a cell above p has a label
       cell-label : p <ℤ z → meant row (pos i) ≡ some z
       cell-label h =
-          let near : i ≤ 2 ^ 22 = omega (arith, b .whole, b .high) in
+          let near : i ≤ poolLimit = omega (arith, b .whole, b .high) in
           let w = latest-bound period distance cells (o .sound) (pos i) p (d .latest) (simp ints (omega arith)) (near ∴ simp ints (omega arith)) in
           cell-is ∙ label-full z (λ e. e ∴ h ∴ w ∴ simp ints (omega arith))
 

@@ -33,7 +33,7 @@ use Rattle.kinds.specs.Stands.{end, rowIn}
 use Rattle.fill_shared.specs.declared.Filled.the-variants.{Labelled, OutOfRange}
 use Rattle.fill_shared.specs.Placed.{filledAs, Fills}
 use Rattle.fill_shared.proofs.Cells.{row-kept}
-use Rattle.fill_shared.proofs.Working.{Writes, working-length, working-at, writes-labelled, writes-all, out-of-range, filled-out}
+use Rattle.fill_shared.proofs.Working.{Writes, working-length, working-at, paste-before, writes-labelled, writes-all, out-of-range, filled-out}
 use Rattle.fill_unary.proofs.Instants.{label-at, labelled-first}
 
 -- the label of an instant
@@ -97,6 +97,9 @@ module _ {x : ℤ} {a : Operand} {at period : ℕ} {old : List ℤ} (s : Shifts 
         let l : at + t ≤ length old = omega (arith, w .at-most, size-is, s .room) in
         let m : t ≤ length (working o .cells) = omega (arith, w .at-most, working-length o) in
         ap length (w .is-new) ∙ length-paste old at (working o .cells) t l m
+
+    shifted-before : take at new ≡ take at old
+    shifted-before = ap (take at) (w .is-new) ∙ paste-before old at (working o .cells) t (omega (arith, s .room))
 
     -- the row stands as it stood
     kept : rowIn new a ≡ r
@@ -169,7 +172,7 @@ module _ {x : ℤ} {a : Operand} {at period : ℕ} {old : List ℤ} (s : Shifts 
       shifted-out e =
           let y = w .is-outside .0 e in
           let q = out-at (y .0) (y .1) (result o (pos (y .0))) refl (y .2) in
-          (q .0, (shifted-length, λ z. absurd (true≢false z (q .1))))
+          record { answer = q .0; lengths = shifted-length; before = shifted-before; row = λ z. absurd (true≢false z (q .1)) }
 
       -- a sound row has a label
       labelled : (u : ℕ) × (u < t) × (isSome (result o (pos u)) ≡ true)
@@ -188,10 +191,10 @@ module _ {x : ℤ} {a : Operand} {at period : ℕ} {old : List ℤ} (s : Shifts 
       pub shifted-done : outside ≤ 0 → Fills o at period old new Labelled
       shifted-done e =
           let room : at + size o .period ≤ length old = omega (arith, size-is, s .room) in
-          let h = all-written e in (
-            writes-labelled o at old room new true t h done refl,
-            (
-              shifted-length,
-              λ z. writes-all o at old room new true t h done ∙ ap (λ (n : ℕ). take at old ++ (working o .cells ++ drop (at + n) old)) size-is,
-            ),
-          )
+          let h = all-written e in
+          record {
+            answer = writes-labelled o at old room new true t h done refl;
+            lengths = shifted-length;
+            before = shifted-before;
+            row = λ z. writes-all o at old room new true t h done ∙ ap (λ (n : ℕ). take at old ++ (working o .cells ++ drop (at + n) old)) size-is;
+          }

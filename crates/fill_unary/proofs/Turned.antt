@@ -30,9 +30,8 @@ use Rattle.kinds.specs.declared.Kind.the-variants.{Group}
 use Rattle.kinds.specs.Operations.{operationOf}
 use Rattle.fill_shared.specs.declared.Filled.the-variants.{OutOfRange}
 use Rattle.fill_shared.proofs.Points.{label-small}
-use Rattle.fill_shared.proofs.Working.{filled-out, out-of-range}
 use Rattle.fill_shared.specs.Placed.{Fills}
-use Rattle.fill_shared.proofs.Turns.{Lent, Turn, rowOf, turn-length, turn-more, a-kept, turn-ends}
+use Rattle.fill_shared.proofs.Turns.{Lent, Turn, rowOf, turn-more, turn-out, a-kept, turn-ends}
 use Rattle.fill_shared.proofs.Cursors.{Cell, cells-are, cell-on, label-of-cell}
 use Rattle.fill_unary.specs.Grouped.{labelAt, groupAt, Small, grouped, Grouped}
 use Rattle.fill_unary.proofs.Groups.{group-of}
@@ -119,13 +118,6 @@ module _ (x : ℤ) (a : Lent) (at period : ℕ) (old new : List ℤ) (labelled :
     pub group-is : groupAt x z (a .start) new i ≡ result o (pos (t + i))
     group-is = sym (group-of (up x) row (pos (t + i)) _ label-is)
 
-    -- its group is outside the limits
-    pub turn-outside : (j : ℤ) → some j ≡ groupAt x z (a .start) new i → inRange j ≡ false → (pool : List ℤ) → length pool ≡ length new → Fills o at period old pool OutOfRange
-    turn-outside j e r pool q =
-        let y : some j ≡ result o (pos (t + i)) = e ∙ group-is in
-        let b : t + i < size o .period = omega (arith, h .lends .is-period) in
-        (filled-out o (t + i) b j y r, (q ∙ turn-length _ _ _ _ _ _ _ _ _ h, λ k. absurd (true≢false k (out-of-range o (t + i) b j y r))))
-
   pub turn-small : Small z (a .start) (a .end - a .start) new
   turn-small i m j e =
       let b : t + i ≤ poolLimit = omega (arith, h .lends .room, h .lends .few) in
@@ -144,8 +136,19 @@ module _ (x : ℤ) (a : Lent) (at period : ℕ) (old new : List ℤ) (labelled :
             (turn-more _ _ _ _ _ _ _ _ _ (d .1) (omega arith) l (group-is n (omega arith)) _ _ (w n (omega arith)) (ap (λ (k : ℕ). set (grouped x z (a .start) (at + t) new n) k (cellOf l)) (omega arith)) refl),
       )
 
-  -- all its cells
+  -- n of its cells
+  turned-cells : (n : ℕ) → n ≤ a .end - a .start → (pool : List ℤ) → Grouped x z (a .start) (at + t) new pool n → (f : Bool) × Turn (Group x) a a at period old pool f (t + n)
+  turned-cells n m pool g =
+      let d = turn-on n m (g .within) in
+      (d .0, subst (λ (l : List ℤ). Turn (Group x) a a at period old l (d .0) (t + n)) (sym (g .is-new)) (d .1))
+
+  -- all of them
   pub turned : (pool : List ℤ) → Grouped x z (a .start) (at + t) new pool (a .end - a .start) → (f : Bool) × Turn (Group x) a a at period old pool f (t + (a .end - a .start))
-  turned pool g =
-      let d = turn-on (a .end - a .start) (omega arith) (g .within) in
-      (d .0, subst (λ (l : List ℤ). Turn (Group x) a a at period old l (d .0) (t + (a .end - a .start))) (sym (g .is-new)) (d .1))
+  turned pool g = turned-cells (a .end - a .start) (omega arith) pool g
+
+  -- the group of the cell behind them is outside the limits
+  pub turn-outside : (i : ℕ) → i < a .end - a .start → (j : ℤ) → some j ≡ groupAt x z (a .start) new i → inRange j ≡ false
+      → (pool : List ℤ) → Grouped x z (a .start) (at + t) new pool i → Fills o at period old pool OutOfRange
+  turn-outside i m j e r pool g =
+      let d = turned-cells i (omega arith) pool g in
+      turn-out _ _ _ _ _ _ _ _ _ (d .1) (omega arith) (some j) (e ∙ group-is i m) pool refl r

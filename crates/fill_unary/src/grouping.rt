@@ -56,7 +56,7 @@ fn fill_turn(
     requires { ⌜ Small rise start count (now pool) ⌝ }
     ensures length { λ r. ⌜ length (now (pool .exit)) ≡ length (now (pool .entry)) ⌝ }
     ensures inside { λ r. ⌜ (inRange (r .number) ≡ true → Knows x r × Grouped x rise start to (now (pool .entry)) (now (pool .exit)) count) ⌝ }
-    ensures outside { λ r. ⌜ (inRange (r .number) ≡ false → (i : ℕ) × (i < count) × (some (r .number) ≡ groupAt x rise start (now (pool .entry)) i)) ⌝ }
+    ensures outside { λ r. ⌜ (inRange (r .number) ≡ false → (i : ℕ) × (i < count) × (some (r .number) ≡ groupAt x rise start (now (pool .entry)) i) × Grouped x rise start to (now (pool .entry)) (now (pool .exit)) i) ⌝ }
 {
     let mut known = from;
     let mut i = 0;

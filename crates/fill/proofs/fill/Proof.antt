@@ -41,7 +41,7 @@ fill-group-requires : tie.Need-fill-group-requires
 fill-group-requires c κs = let d = c .before in asked (d .before .before .before) _ (group-kind d)
 
 same-length : tie.Need-same-length
-same-length c = c .before .fill-group .ensures .1 .0
+same-length c = c .before .fill-group .ensures .lengths
 
 returns : tie.Need-returns
 returns c = let d = c .before .before .before in filled (d .before .before .before) _ (group-kind d) _ _ (c .before .fill-group .ensures)
@@ -56,7 +56,7 @@ fill-shift-requires : tie.Need-fill-shift-requires
 fill-shift-requires c κs = let d = c .before in asked (d .before .before .before) _ (shift-kind d)
 
 same-length-2 : tie.Need-same-length-2
-same-length-2 c = c .before .fill-shift .ensures .1 .0
+same-length-2 c = c .before .fill-shift .ensures .lengths
 
 returns-2 : tie.Need-returns-2
 returns-2 c = let d = c .before .before .before in filled (d .before .before .before) _ (shift-kind d) _ _ (c .before .fill-shift .ensures)
@@ -71,7 +71,7 @@ fill-renumber-requires : tie.Need-fill-renumber-requires
 fill-renumber-requires c κs = let d = c .before in asked (d .before .before .before) _ (renumber-kind d)
 
 same-length-3 : tie.Need-same-length-3
-same-length-3 c = c .before .fill-renumber .ensures .1 .0
+same-length-3 c = c .before .fill-renumber .ensures .lengths
 
 returns-3 : tie.Need-returns-3
 returns-3 c = let d = c .before .before .before in filled (d .before .before .before) _ (renumber-kind d) _ _ (c .before .fill-renumber .ensures)
@@ -83,7 +83,7 @@ fill-alter-requires : tie.Need-fill-alter-requires
 fill-alter-requires c κs = let d = c .before in asked (d .before .before .before) _ (d .before .kind4 .given .1)
 
 same-length-4 : tie.Need-same-length-4
-same-length-4 c = c .before .fill-alter .ensures .1 .0
+same-length-4 c = c .before .fill-alter .ensures .lengths
 
 returns-4 : tie.Need-returns-4
 returns-4 c = let d = c .before .before .before in filled (d .before .before .before) _ (d .before .kind4 .given .1) _ _ (c .before .fill-alter .ensures)
@@ -95,7 +95,7 @@ fill-combine-requires : tie.Need-fill-combine-requires
 fill-combine-requires c κs = let d = c .before in asked (d .before .before) _ (d .enum-told .given .1)
 
 same-length-5 : tie.Need-same-length-5
-same-length-5 c = c .before .fill-combine .ensures .1 .0
+same-length-5 c = c .before .fill-combine .ensures .lengths
 
 returns-5 : tie.Need-returns-5
 returns-5 c = let d = c .before .before .before in filled (d .before .before) _ (d .enum-told .given .1) _ _ (c .before .fill-combine .ensures)
@@ -107,7 +107,7 @@ fill-anchor-requires : tie.Need-fill-anchor-requires
 fill-anchor-requires c κs = let d = c .before in asked (d .before .before) _ (d .enum-told2 .given .1)
 
 same-length-6 : tie.Need-same-length-6
-same-length-6 c = c .before .fill-anchor .ensures .1 .0
+same-length-6 c = c .before .fill-anchor .ensures .lengths
 
 returns-6 : tie.Need-returns-6
 returns-6 c = let d = c .before .before .before in filled (d .before .before) _ (d .enum-told2 .given .1) _ _ (c .before .fill-anchor .ensures)
@@ -119,7 +119,7 @@ fill-select-requires : tie.Need-fill-select-requires
 fill-select-requires c κs = let d = c .before in asked (d .before .before .before) _ (d .before .kind5 .given .1)
 
 same-length-7 : tie.Need-same-length-7
-same-length-7 c = c .before .fill-select .ensures .1 .0
+same-length-7 c = c .before .fill-select .ensures .lengths
 
 returns-7 : tie.Need-returns-7
 returns-7 c = let d = c .before .before .before in filled (d .before .before .before) _ (d .before .kind5 .given .1) _ _ (c .before .fill-select .ensures)
@@ -131,7 +131,7 @@ fill-by-labels-requires : tie.Need-fill-by-labels-requires
 fill-by-labels-requires c κs = let d = c .before in asked (d .before .before .before) _ (d .before .kind6 .given .1)
 
 same-length-8 : tie.Need-same-length-8
-same-length-8 c = c .before .fill-by-labels .ensures .1 .0
+same-length-8 c = c .before .fill-by-labels .ensures .lengths
 
 returns-8 : tie.Need-returns-8
 returns-8 c = let d = c .before .before .before in filled (d .before .before .before) _ (d .before .kind6 .given .1) _ _ (c .before .fill-by-labels .ensures)
@@ -143,7 +143,7 @@ fill-bottom-requires : tie.Need-fill-bottom-requires
 fill-bottom-requires c κs = let d = c .before in asked (d .before .before) _ (d .enum-told3 .given .1) .1
 
 same-length-9 : tie.Need-same-length-9
-same-length-9 c = c .before .fill-bottom .ensures .1 .0
+same-length-9 c = c .before .fill-bottom .ensures .lengths
 
 returns-9 : tie.Need-returns-9
 returns-9 c = let d = c .before .before .before in filled (d .before .before) _ (d .enum-told3 .given .1) _ _ (c .before .fill-bottom .ensures)

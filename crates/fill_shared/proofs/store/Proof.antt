@@ -40,7 +40,7 @@ returns : tie.Need-returns
 returns c =
     let k = c .before .before in
     let r : inRange (label k) ≡ false = sym (c .before .in-range .ensures) ∙ not-true _ (c .if1 .taken) in
-    (sym (within k ∙ r), (refl, λ e. absurd (true≢false e refl)))
+    (sym (within k ∙ r), (refl, (λ e. absurd (true≢false e refl), λ e. refl)))
 
 in-range : (c : tie.Else1) → inRange (label (c .before .before)) ≡ true
 in-range c = sym (c .before .in-range .ensures) ∙ not-false _ (c .if1 .left)
@@ -70,7 +70,7 @@ returns-2 : tie.Need-returns-2
 returns-2 c =
     let k = c .before .before in
     let s = k .before .before .before in
-    (sym (within k ∙ in-range c), (length-set (s .args .pool .now) (s .args .i) _, λ e. ap (set (s .args .pool .now) (s .args .i)) (toZ-ofZ (cast-pool c) ∙ sym (ap cellOf (label-is k)))))
+    (sym (within k ∙ in-range c), (length-set (s .args .pool .now) (s .args .i) _, (λ e. ap (set (s .args .pool .now) (s .args .i)) (toZ-ofZ (cast-pool c) ∙ sym (ap cellOf (label-is k))), λ e. absurd (true≢false refl e))))
 
 same-length-2 : tie.Need-same-length-2
 same-length-2 c = search needs
@@ -79,7 +79,7 @@ returns-3 : tie.Need-returns-3
 returns-3 c =
     let s = c .before .before in
     let q = c .enum-told .given .1 in
-    (sym (ap (λ (l : Found). ifLabel (found l) inRange) q), (length-set (s .args .pool .now) (s .args .i) _, λ e. ap (set (s .args .pool .now) (s .args .i)) (sym (ap (λ (l : Found). cellOf (found l)) q))))
+    (sym (ap (λ (l : Found). ifLabel (found l) inRange) q), (length-set (s .args .pool .now) (s .args .i) _, (λ e. ap (set (s .args .pool .now) (s .args .i)) (sym (ap (λ (l : Found). cellOf (found l)) q)), λ e. absurd (true≢false refl e))))
 
 pub store-spec : {M : Type 1} → statement M
 store-spec =

@@ -188,7 +188,7 @@ returns c =
     let x = n .before .before in
     let i = x .before .before .before .before in
     as-filled (told (i .before .before)) _ _
-    (turn-out _ _ _ _ _ _ _ _ _ (i .before .loop .inv .0) (i .loop-test .taken) _ (stepped x .0) _ (n .store .ensures .1 .0) (sym (n .store .ensures .0) ∙ not-true _ (c .if1 .taken)))
+    (turn-out _ _ _ _ _ _ _ _ _ (i .before .loop .inv .0) (i .loop-test .taken) _ (stepped x .0) _ (n .store .ensures .1 .1 .1 (not-true _ (c .if1 .taken))) (sym (n .store .ensures .0) ∙ not-true _ (c .if1 .taken)))
 
 any-requires : tie.Need-any-requires Inv-loop μ-loop
 any-requires c κs = tt
@@ -206,7 +206,7 @@ loop-again c =
     let x = n .before .before in
     let i = x .before .before .before .before in
     let r = not-false _ (e .if1 .left) in
-    (turn-more _ _ _ _ _ _ _ _ _ (i .before .loop .inv .0) (i .loop-test .taken) _ (stepped x .0) _ _ (sym (n .store .ensures .0) ∙ r) (n .store .ensures .1 .1 r) (c .before .any .ensures), stepped x .1)
+    (turn-more _ _ _ _ _ _ _ _ _ (i .before .loop .inv .0) (i .loop-test .taken) _ (stepped x .0) _ _ (sym (n .store .ensures .0) ∙ r) (n .store .ensures .1 .1 .0 r) (c .before .any .ensures), stepped x .1)
 
 -- ---- the end
 

@@ -52,7 +52,7 @@ finish-requires c κs =
     let p = f .period in
     let d = f .distance in (
       simp plain (is-worked (a .kind) (a .extent) (a .a) (a .b) (a .k) (a .used) (a .headings .now) (a .pool .now) (s .pre .0) (s .pre .1) f _
-          _ (l .fill .ensures .0) (c .before .before .before .before .enum-told3 .given .1) (l .fill .ensures .1 .1)),
+          _ (l .fill .ensures .answer) (c .before .before .before .before .enum-told3 .given .1) (l .fill .ensures .row)),
       s .pre .0 .has-heading,
     )
 
@@ -64,9 +64,9 @@ returns c =
     let l = c .before .before .before .before in
     let s = l .before .before .before .before .before .before in
     let a = s .args in (
-      (search needs, l .fill .ensures .1 .0),
+      (search needs, l .fill .ensures .lengths),
       none-labelled _ _ _ (passed (a .kind) (a .extent) (a .a) (a .b) (a .k) (a .used) (a .headings .now) (a .pool .now) (s .pre .0) (s .pre .1) (fits s))
-          _ (l .fill .ensures .0) (c .before .enum-told .given .1) ∙ ap refused (sym (c .number .ensures)),
+          _ (l .fill .ensures .answer) (c .before .enum-told .given .1) ∙ ap refused (sym (c .number .ensures)),
     )
 
 same-length-2 : tie.Need-same-length-2
@@ -77,9 +77,9 @@ returns-2 c =
     let l = c .before .before .before .before in
     let s = l .before .before .before .before .before .before in
     let a = s .args in (
-      (search needs, l .fill .ensures .1 .0),
+      (search needs, l .fill .ensures .lengths),
       out-of-range _ _ _ (passed (a .kind) (a .extent) (a .a) (a .b) (a .k) (a .used) (a .headings .now) (a .pool .now) (s .pre .0) (s .pre .1) (fits s))
-          _ (l .fill .ensures .0) (c .before .enum-told2 .given .1) ∙ ap refused (sym (c .number2 .ensures)),
+          _ (l .fill .ensures .answer) (c .before .enum-told2 .given .1) ∙ ap refused (sym (c .number2 .ensures)),
     )
 
 same-length-3 : tie.Need-same-length-3
@@ -100,7 +100,7 @@ returns-3 c =
     let d = f .distance in (
       (same-length-3 c, same-length-4 c),
       became (a .kind) (a .extent) (a .a) (a .b) (a .k) (a .used) (a .headings .now) (a .pool .now) (s .pre .0) (s .pre .1) f _
-          _ (l .fill .ensures .0) (t .enum-told3 .given .1) (l .fill .ensures .1 .1) _ _ _ (simp plain at (n .finish .ensures)),
+          _ (l .fill .ensures .answer) (t .enum-told3 .given .1) (l .fill .ensures .row) _ _ _ (simp plain at (n .finish .ensures)),
     )
 
 pub write-spec : {M : Type 1} → statement M

@@ -15,7 +15,7 @@ use Rattle.calendar.specs.Compute.{working}
 use Rattle.fill_shared.specs.Placed.{filledAs}
 use Rattle.fill_shared.specs.declared.Filled.the-variants.{Labelled}
 use Rattle.fill_shared.proofs.Single.{bottom-of}
-use Rattle.fill_shared.proofs.Working.{Writes, writes-none, writes-more, writes-labelled, writes-all}
+use Rattle.fill_shared.proofs.Working.{Writes, writes-none, writes-more, writes-before, writes-labelled, writes-all}
 use Rattle.fill.proofs.bottom.fill_bottom.Statement.{statement}
 use Rattle.fill.proofs.bottom.fill_bottom.Tie as tie
 
@@ -35,6 +35,9 @@ module _ (at : ℕ) (old : List ℤ) (room : at + 1 ≤ length old) where
 
   answer : Labelled ≡ filledAs bottom
   answer = writes-labelled bottom at old fits new true 1 writes (omega (arith, one)) refl
+
+  before : take at new ≡ take at old
+  before = writes-before bottom at old fits new true 1 writes
 
   cells : new ≡ take at old ++ (working bottom .cells ++ drop (at + size bottom .period) old)
   cells = writes-all bottom at old fits new true 1 writes (omega (arith, one))
@@ -56,15 +59,15 @@ returns c =
     let at = c .args .at in
     let old = c .args .pool .now in
     let h = room c in
-    let here : at + 0 ≡ at = omega arith in (
-      answer at old h,
-      (
-        length-set old at (pos 0),
-        λ q. ap (λ (n : ℕ). set old n (pos 0)) (sym here)
-            ∙ cells at old h
-            ∙ ap (λ (n : ℕ). take at old ++ (working bottom .cells ++ drop (at + n) old)) (sym (c .pre .is-period)),
-      ),
-    )
+    let here : set old at (pos 0) ≡ new at old h = ap (λ (n : ℕ). set old n (pos 0)) (omega arith) in
+    record {
+      answer = answer at old h;
+      lengths = length-set old at (pos 0);
+      before = ap (take at) here ∙ before at old h;
+      row = λ q. here
+          ∙ cells at old h
+          ∙ ap (λ (n : ℕ). take at old ++ (working bottom .cells ++ drop (at + n) old)) (sym (c .pre .is-period));
+    }
 
 pub fill-bottom-spec : {M : Type 1} → statement M
 fill-bottom-spec = tie.close (tie.spec mul-pool slice-set-of-pool same-length returns)

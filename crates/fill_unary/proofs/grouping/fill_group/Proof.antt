@@ -151,7 +151,7 @@ returns c =
     let l = i .before in
     let r = sym (range-is (c .before)) ∙ not-true _ (c .if1 .taken) in
     let o = f .fill-turn .ensures .1 .1 r in
-    as-filled (l .before) _ _ (turn-outside _ (lent (l .before)) _ _ _ _ _ _ _ (l .loop .inv .0 .1) (l .loop .inv .1) (room i) (o .0) (o .1) _ (o .2) r _ (f .fill-turn .ensures .0))
+    as-filled (l .before) _ _ (turn-outside _ (lent (l .before)) _ _ _ _ _ _ _ (l .loop .inv .0 .1) (l .loop .inv .1) (room i) (o .0) (o .1) _ (o .2) r _ (o .3))
 
 -- ---- the next turn
 

@@ -69,7 +69,7 @@ returns c =
     let t = g .before .before .before in
     let i = t .before .before in
     let r = sym (range-is (c .before)) ∙ not-true _ (c .if3 .taken) in
-    ends (i .before .before) _ _ (kept-length (i .before), (λ e. absurd (true≢false e r), λ e. (i .before .loop .i, i .loop-test .taken, is-group t _ (worked-out g .0))))
+    ends (i .before .before) _ _ (kept-length (i .before), (λ e. absurd (true≢false e r), λ e. (i .before .loop .i, i .loop-test .taken, is-group t _ (worked-out g .0), i .before .loop .inv .0)))
 
 -- what is known of the label
 abbrev Numbered : In-loop → Known → Type 0

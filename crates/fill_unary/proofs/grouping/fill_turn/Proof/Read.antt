@@ -53,7 +53,7 @@ Ends s x z pool r =
     let old = s .args .pool .now in
     (length pool ≡ length old)
     × ((inRange (r .number) ≡ true → Knows x r × Grouped x z (s .args .start) (s .args .to) old pool (s .args .count))
-    × (inRange (r .number) ≡ false → (i : ℕ) × (i < s .args .count) × (some (r .number) ≡ groupAt x z (s .args .start) old i)))
+    × (inRange (r .number) ≡ false → (i : ℕ) × (i < s .args .count) × (some (r .number) ≡ groupAt x z (s .args .start) old i) × Grouped x z (s .args .start) (s .args .to) old pool i))
 
 pub ends : (s : Begun) (pool : List ℤ) (r : Known) → Ends s (factor s) (lift s) pool r → Ends s (s .args .x) (s .args .rise) pool r
 ends s pool r h =
