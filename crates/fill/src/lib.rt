@@ -3,6 +3,7 @@
 ghost use Rattle.kinds.specs.Stands.{rowIn};
 ghost use Rattle.fill_shared.specs.Given.{Given};
 ghost use Rattle.fill_shared.specs.Placed.{Placed, over, Fills};
+use fill_pointwise::Pointwise;
 use fill_shared::Filled;
 use kinds::Kind;
 use kinds::Operand;
@@ -37,9 +38,25 @@ pub fn fill(
         ),
         Kind::Alter(by) => fill_alter::fill_alter(by, span, at, period, pool, a, b),
         Kind::Combine => combining::fill_combine(span, at, period, pool, a, b),
-        Kind::Anchor => anchoring::fill_anchor(span, at, period, pool, a, b),
+        Kind::Anchor => fill_pointwise::fill_pointwise(
+            Pointwise::Anchor,
+            span,
+            at,
+            period,
+            pool,
+            a,
+            b,
+        ),
         Kind::Select(by) => selecting::fill_select(by, span, at, period, pool, a, b),
-        Kind::ByLabels(by) => joining::fill_by_labels(by, span, at, period, pool, a, b),
+        Kind::ByLabels(by) => fill_pointwise::fill_pointwise(
+            Pointwise::ByLabels(by),
+            span,
+            at,
+            period,
+            pool,
+            a,
+            b,
+        ),
         Kind::Bottom => bottom::fill_bottom(span, at, period, pool, a, b),
     }
 }

@@ -103,14 +103,14 @@ returns-5 c = let d = c .before .before .before in filled (d .before .before) _ 
 enum-told-2 : tie.Need-enum-told-2
 enum-told-2 c = search needs
 
-fill-anchor-requires : tie.Need-fill-anchor-requires
-fill-anchor-requires c κs = let d = c .before in asked (d .before .before) _ (d .enum-told2 .given .1)
+fill-pointwise-requires : tie.Need-fill-pointwise-requires
+fill-pointwise-requires c κs = let d = c .before in asked (d .before .before) _ (d .enum-told2 .given .1)
 
 same-length-6 : tie.Need-same-length-6
-same-length-6 c = c .before .fill-anchor .ensures .lengths
+same-length-6 c = c .before .fill-pointwise .ensures .lengths
 
 returns-6 : tie.Need-returns-6
-returns-6 c = let d = c .before .before .before in filled (d .before .before) _ (d .enum-told2 .given .1) _ _ (c .before .fill-anchor .ensures)
+returns-6 c = let d = c .before .before .before in filled (d .before .before) _ (d .enum-told2 .given .1) _ _ (c .before .fill-pointwise .ensures)
 
 enum-known-kind-5 : tie.Need-enum-known-kind-5
 enum-known-kind-5 c = search needs
@@ -127,14 +127,14 @@ returns-7 c = let d = c .before .before .before in filled (d .before .before .be
 enum-known-kind-6 : tie.Need-enum-known-kind-6
 enum-known-kind-6 c = search needs
 
-fill-by-labels-requires : tie.Need-fill-by-labels-requires
-fill-by-labels-requires c κs = let d = c .before in asked (d .before .before .before) _ (d .before .kind6 .given .1)
+fill-pointwise-requires-2 : tie.Need-fill-pointwise-requires-2
+fill-pointwise-requires-2 c κs = let d = c .before in asked (d .before .before .before) _ (d .before .kind6 .given .1)
 
 same-length-8 : tie.Need-same-length-8
-same-length-8 c = c .before .fill-by-labels .ensures .lengths
+same-length-8 c = c .before .fill-pointwise2 .ensures .lengths
 
 returns-8 : tie.Need-returns-8
-returns-8 c = let d = c .before .before .before in filled (d .before .before .before) _ (d .before .kind6 .given .1) _ _ (c .before .fill-by-labels .ensures)
+returns-8 c = let d = c .before .before .before in filled (d .before .before .before) _ (d .before .kind6 .given .1) _ _ (c .before .fill-pointwise2 .ensures)
 
 enum-told-3 : tie.Need-enum-told-3
 enum-told-3 c = search needs
@@ -163,11 +163,11 @@ fill-spec =
     enum-told
     fill-combine-requires
     enum-told-2
-    fill-anchor-requires
+    fill-pointwise-requires
     enum-known-kind-5
     fill-select-requires
     enum-known-kind-6
-    fill-by-labels-requires
+    fill-pointwise-requires-2
     enum-told-3
     fill-bottom-requires
     same-length

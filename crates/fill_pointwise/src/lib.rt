@@ -1,4 +1,4 @@
-// Union, intersection and difference: the two labels of the instant decide its label.
+// Anchor and the set operations: the two labels of an instant and the last label of b decide its label.
 
 ghost use mathlib.Core.Path.{_≡_};
 ghost use Prim.Native.Nat.{_+_};
@@ -8,38 +8,45 @@ ghost use Rattle.calendar.specs.Limits.{poolLimit};
 ghost use Rattle.calendar.specs.Compute.{result};
 ghost use Rattle.calendar.specs.Questions.{given};
 ghost use Rattle.cursors.specs.Found.{found};
-ghost use Rattle.kinds.specs.declared.Kind.the-variants.{ByLabels};
 ghost use Rattle.kinds.specs.Operations.{operationOf};
 ghost use Rattle.kinds.specs.Stands.{rowIn};
 ghost use Rattle.fill_shared.specs.Given.{Given};
 ghost use Rattle.fill_shared.specs.Placed.{Placed, over, Fills};
-ghost use Rattle.joining.specs.Joined.{joinedLabel};
-ghost use Rattle.joining.specs.Scanning.{Joins};
+ghost use Rattle.fill_pointwise.specs.Decided.{kindOf, setLabel, decidedLabel, laterLabel};
+ghost use Rattle.fill_pointwise.specs.Scanning.{Scans};
 use cursors::Cursor;
 use cursors::Found;
 use fill_shared::Filled;
 use fill_shared::any;
 use fill_shared::end_of;
+use fill_shared::last_before;
 use fill_shared::outcome;
 use fill_shared::store;
 use kinds::Operand;
 use kinds::SetOperation;
 
-// What the loop carries: the cursors of the instant.
-pub struct Joining {
+// The kinds whose labels are decided instant by instant.
+pub enum Pointwise {
+    Anchor,
+    ByLabels(SetOperation),
+}
+
+// What the loop carries: the cursors of the instant, and the last label of b before it.
+pub struct Scanning {
     pub a: Cursor,
     pub b: Cursor,
+    pub last: i64,
 }
 
 // The label of an instant, and the state before the next one.
 pub struct Stepped {
     pub label: Found,
-    pub next: Joining,
+    pub next: Scanning,
 }
 
 // The label that a set operation gives an instant with the labels x in a and y in b.
-fn joined(by: SetOperation, x: Found, y: Found) -> Found
-    ensures { λ r. ⌜ found r ≡ joinedLabel by (found x) (found y) ⌝ }
+fn set_label(by: SetOperation, x: Found, y: Found) -> Found
+    ensures { λ r. ⌜ found r ≡ setLabel by (found x) (found y) ⌝ }
 {
     match by {
         SetOperation::Union => match x {
@@ -57,10 +64,33 @@ fn joined(by: SetOperation, x: Found, y: Found) -> Found
     }
 }
 
-// The label of the instant, by its labels in a and in b.
-fn by_labels(
-    by: SetOperation,
-    s: Joining,
+// The label of an instant with the labels x in a and y in b, where the last label of b is `last`.
+fn decided(by: Pointwise, x: Found, y: Found, last: i64) -> Found
+    ensures { λ r. ⌜ found r ≡ decidedLabel by (found x) (found y) last ⌝ }
+{
+    match by {
+        Pointwise::Anchor => match x {
+            Found::At(_) => Found::At(last),
+            Found::Nothing => Found::Nothing,
+        },
+        Pointwise::ByLabels(set) => set_label(set, x, y),
+    }
+}
+
+// The last label of b, given that before the instant and the instant's own.
+fn later(last: i64, y: Found) -> i64
+    ensures { λ r. ⌜ r ≡ laterLabel last (found y) ⌝ }
+{
+    match y {
+        Found::At(k) => k,
+        Found::Nothing => last,
+    }
+}
+
+// The label of the instant t.
+fn step(
+    by: Pointwise,
+    s: Scanning,
     t: i64,
     a_cells: &[i32],
     a_period: i64,
@@ -69,26 +99,27 @@ fn by_labels(
     b_period: i64,
     b_distance: i64,
 ) -> Stepped
-    requires { ⌜ Given (ByLabels by) (given «a_period» «a_distance» (now «a_cells»)) (given «b_period» «b_distance» (now «b_cells»)) ⌝ }
-    requires { ⌜ Joins (given «a_period» «a_distance» (now «a_cells»)) (given «b_period» «b_distance» (now «b_cells»)) t s ⌝ }
+    requires { ⌜ Given (kindOf by) (given «a_period» «a_distance» (now «a_cells»)) (given «b_period» «b_distance» (now «b_cells»)) ⌝ }
+    requires { ⌜ Scans (given «a_period» «a_distance» (now «a_cells»)) (given «b_period» «b_distance» (now «b_cells»)) t s ⌝ }
     requires { ⌜ t <ℤ pos poolLimit ⌝ }
-    ensures label { λ r. ⌜ found (r .label) ≡ result (operationOf (ByLabels by) (given «a_period» «a_distance» (now («a_cells» .entry))) (given «b_period» «b_distance» (now («b_cells» .entry)))) t ⌝ }
-    ensures next { λ r. ⌜ Joins (given «a_period» «a_distance» (now («a_cells» .entry))) (given «b_period» «b_distance» (now («b_cells» .entry))) (t +ℤ pos 1) (r .next) ⌝ }
+    ensures label { λ r. ⌜ found (r .label) ≡ result (operationOf (kindOf by) (given «a_period» «a_distance» (now («a_cells» .entry))) (given «b_period» «b_distance» (now («b_cells» .entry)))) t ⌝ }
+    ensures next { λ r. ⌜ Scans (given «a_period» «a_distance» (now («a_cells» .entry))) (given «b_period» «b_distance» (now («b_cells» .entry))) (t +ℤ pos 1) (r .next) ⌝ }
 {
     let label = cursors::cursor_label(a_cells, a_period, a_distance, s.a);
     let other = cursors::cursor_label(b_cells, b_period, b_distance, s.b);
     let mut next = s;
     next.a = cursors::cursor_next(a_cells, a_period, a_distance, s.a);
     next.b = cursors::cursor_next(b_cells, b_period, b_distance, s.b);
+    next.last = later(s.last, other);
     Stepped {
-        label: joined(by, label, other),
+        label: decided(by, label, other, next.last),
         next: next,
     }
 }
 
-// Fills the working row of a set operation.
-pub fn fill_by_labels(
-    by: SetOperation,
+// Fills the working row of an anchoring or of a set operation.
+pub fn fill_pointwise(
+    by: Pointwise,
     span: i64,
     at: usize,
     period: usize,
@@ -96,9 +127,9 @@ pub fn fill_by_labels(
     a: Operand,
     b: Operand,
 ) -> Filled
-    requires { ⌜ Given (ByLabels by) (rowIn (now pool) a) (rowIn (now pool) b) ⌝ }
-    requires { ⌜ Placed (ByLabels by) a b span at period (now pool) ⌝ }
-    ensures { λ r. ⌜ Fills (over (ByLabels by) (now (pool .entry)) a b) at period (now (pool .entry)) (now (pool .exit)) r ⌝ }
+    requires { ⌜ Given (kindOf by) (rowIn (now pool) a) (rowIn (now pool) b) ⌝ }
+    requires { ⌜ Placed (kindOf by) a b span at period (now pool) ⌝ }
+    ensures { λ r. ⌜ Fills (over (kindOf by) (now (pool .entry)) a b) at period (now (pool .entry)) (now (pool .exit)) r ⌝ }
 {
     let a_start = a.start;
     let a_end = end_of(a, at);
@@ -110,11 +141,16 @@ pub fn fill_by_labels(
     let b_distance = b.distance;
     let c = cursors::cursor_at(&pool[a_start..a_end], a_period, a_distance, 0);
     let d = cursors::cursor_at(&pool[b_start..b_end], b_period, b_distance, 0);
-    let mut s = Joining { a: c, b: d };
+    let last = last_before(&pool[b_start..b_end], b_period, b_distance);
+    let mut s = Scanning {
+        a: c,
+        b: d,
+        last: last,
+    };
     let mut labelled = false;
     let mut t = 0;
     while t < period {
-        let stepped = by_labels(
+        let stepped = step(
             by,
             s,
             t as i64,

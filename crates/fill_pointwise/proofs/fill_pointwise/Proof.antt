@@ -1,9 +1,9 @@
--- `anchoring::fill_anchor` meets its contract: each turn of the loop writes the cell of one instant.
+-- `fill_pointwise::fill_pointwise` meets its contract: each turn of the loop writes the cell of one instant.
 -- Assumes nothing.
 use borrow.Author.Needs.{sfits-of}
 use borrow.Author.Tests.{not-true, not-false}
 use mathlib.Core.Path.{_≡_, refl, sym, _∙_}
-use mathlib.Core.Bool.{false}
+use mathlib.Core.Bool.{true, false}
 use mathlib.Core.List.{List}
 use Prim.Native.Nat.{_+_, _-_, _≤_, _<_}
 use native.Mathlib.Omega.{arith}
@@ -13,27 +13,29 @@ use mir.Facts.{toZ-ofZ}
 use Rattle.integers.proofs.Linear.{ints}
 use Rattle.calendar.specs.Limits.{poolLimit}
 use Rattle.calendar.specs.Compute.{result}
+use Rattle.calendar.specs.Sound.{sound}
 use Rattle.cursors.specs.Found.{found}
-use Rattle.kinds.specs.declared.Kind.the-variants.{Anchor}
 use Rattle.kinds.specs.Operations.{operationOf}
 use Rattle.kinds.specs.Stands.{rowIn}
 use Rattle.fill_shared.specs.declared.Filled.{Filled}
 use Rattle.fill_shared.proofs.Cells.{lent-is}
 use Rattle.fill_shared.specs.Placed.{Fills}
 use Rattle.fill_shared.proofs.Turns.{Lent, Turn, lentAs, lentOf, rowOf, first-two, fills-two, turn-length, turn-ends, turn-index, turn-more, turn-out, turn-done}
-use Rattle.anchoring.specs.Scanning.{Anchors}
+use Rattle.fill_pointwise.specs.Decided.{kindOf}
+use Rattle.fill_pointwise.specs.Scanning.{Scans}
+use Rattle.fill_pointwise.proofs.Labels.{sound-both}
 use Rattle.fill_shared.proofs.Steps.{step-asks, step-gave}
-use Rattle.anchoring.proofs.fill_anchor.Statement.{statement}
-use Rattle.anchoring.proofs.fill_anchor.Tie as tie
+use Rattle.fill_pointwise.proofs.fill_pointwise.Statement.{statement}
+use Rattle.fill_pointwise.proofs.fill_pointwise.Tie as tie
 
 abbrev Inv-loop : tie.InvT-loop
-Inv-loop span at period pool₀ a-start a-end a-period a-distance b-start b-end b-period b-distance number s₀ labelled₀ t₀ pool s labelled t =
+Inv-loop by span at period pool₀ a-start a-end a-period a-distance b-start b-end b-period b-distance last s₀ labelled₀ t₀ pool s labelled t =
     let a = lentAs a-start a-end a-period a-distance in
     let b = lentAs b-start b-end b-period b-distance in
-    Turn Anchor a b at period pool₀ pool labelled t × Anchors (rowOf a pool₀) (rowOf b pool₀) (pos t) s
+    Turn (kindOf by) a b at period pool₀ pool labelled t × Scans (rowOf a pool₀) (rowOf b pool₀) (pos t) s
 
 abbrev μ-loop : tie.MeasureT-loop
-μ-loop span at period pool₀ a-start a-end a-period a-distance b-start b-end b-period b-distance number s₀ labelled₀ t₀ pool s labelled t = period - t
+μ-loop by span at period pool₀ a-start a-end a-period a-distance b-start b-end b-period b-distance last s₀ labelled₀ t₀ pool s labelled t = period - t
 
 end-of-requires : tie.Need-end-of-requires Inv-loop μ-loop
 end-of-requires c κs = (c .pre .1 .a-period, c .pre .1 .a-end)
@@ -61,18 +63,21 @@ a-is c = lent-is (entry c .args .a) _ _ (c .before .before .before .before .befo
 b-is : (c : Told) → let s = entry c in rowOf (b-lent c) (s .args .pool .now) ≡ rowIn (s .args .pool .now) (s .args .b)
 b-is c = lent-is (entry c .args .b) _ _ (c .before .before .end-of2 .ensures) (sfits-of (c .before .struct-told3 .given .1 .0 .1)) (sfits-of (c .struct-told4 .given .1 .1 .0 .1))
 
-first : (c : Told) → let s = entry c in Turn Anchor (a-lent c) (b-lent c) (s .args .at) (s .args .period) (s .args .pool .now) (s .args .pool .now) false 0
+first : (c : Told) → let s = entry c in Turn (kindOf (s .args .by)) (a-lent c) (b-lent c) (s .args .at) (s .args .period) (s .args .pool .now) (s .args .pool .now) false 0
 first c =
     let s = entry c in
     first-two _ _ refl (s .args .a) (s .args .b) _ _ _ _ _ (c .before .before .before .before .before .end-of .ensures) (a-is c) _ (c .before .before .end-of2 .ensures) (b-is c) (s .pre .0) (s .pre .1)
 
+sounds : (c : Told) → let p = entry c .args .pool .now in (sound (rowOf (a-lent c) p) ≡ true) × (sound (rowOf (b-lent c) p) ≡ true)
+sounds c = sound-both (entry c .args .by) _ _ (first c .lends .is-given .sounds)
+
 -- what the loop ensures, over the operands
 as-filled : (c : Told) (new : List ℤ) (r : Filled) → let s = entry c in
-    Fills (operationOf Anchor (rowOf (a-lent c) (s .args .pool .now)) (rowOf (b-lent c) (s .args .pool .now))) (s .args .at) (s .args .period) (s .args .pool .now) new r
-    → Fills (operationOf Anchor (rowIn (s .args .pool .now) (s .args .a)) (rowIn (s .args .pool .now) (s .args .b))) (s .args .at) (s .args .period) (s .args .pool .now) new r
+    Fills (operationOf (kindOf (s .args .by)) (rowOf (a-lent c) (s .args .pool .now)) (rowOf (b-lent c) (s .args .pool .now))) (s .args .at) (s .args .period) (s .args .pool .now) new r
+    → Fills (operationOf (kindOf (s .args .by)) (rowIn (s .args .pool .now) (s .args .a)) (rowIn (s .args .pool .now) (s .args .b))) (s .args .at) (s .args .period) (s .args .pool .now) new r
 as-filled c new r h =
     let s = entry c in
-    fills-two Anchor Anchor refl (s .args .a) (s .args .b) (s .args .span) (s .args .at) (s .args .period) _ _ (c .before .before .before .before .before .end-of .ensures) (a-is c) _ (c .before .before .end-of2 .ensures) (b-is c) new r h
+    fills-two (kindOf (s .args .by)) (kindOf (s .args .by)) refl (s .args .a) (s .args .b) (s .args .span) (s .args .at) (s .args .period) _ _ (c .before .before .before .before .before .end-of .ensures) (a-is c) _ (c .before .before .end-of2 .ensures) (b-is c) new r h
 
 -- ---- the state before the instant 0
 
@@ -89,7 +94,7 @@ part-cursor-at-end : tie.Need-part-cursor-at-end Inv-loop μ-loop
 part-cursor-at-end c = turn-ends _ _ _ _ _ _ _ _ _ (first (c .before)) .0
 
 cursor-at-requires : tie.Need-cursor-at-requires Inv-loop μ-loop
-cursor-at-requires c κs = (first (c .before .before) .lends .is-given .sounds .0, simp ints (omega arith))
+cursor-at-requires c κs = (sounds (c .before .before) .0, simp ints (omega arith))
 
 mul-cursor-at-2 : tie.Need-mul-cursor-at-2 Inv-loop μ-loop
 mul-cursor-at-2 c = let l = first (c .before .before .before) .lends in omega (arith, l .b-start, l .b-end, l .room, l .few)
@@ -104,7 +109,7 @@ part-cursor-at-end-2 : tie.Need-part-cursor-at-end-2 Inv-loop μ-loop
 part-cursor-at-end-2 c = turn-ends _ _ _ _ _ _ _ _ _ (first (c .before .before .before .before)) .1
 
 cursor-at-requires-2 : tie.Need-cursor-at-requires-2 Inv-loop μ-loop
-cursor-at-requires-2 c κs = (first (c .before .before .before .before .before) .lends .is-given .sounds .1, simp ints (omega arith))
+cursor-at-requires-2 c κs = (sounds (c .before .before .before .before .before) .1, simp ints (omega arith))
 
 mul-last-before : tie.Need-mul-last-before Inv-loop μ-loop
 mul-last-before c = let l = first (c .before .before .before .before .before .before) .lends in omega (arith, l .b-start, l .b-end, l .room, l .few)
@@ -119,7 +124,7 @@ part-last-before-end : tie.Need-part-last-before-end Inv-loop μ-loop
 part-last-before-end c = turn-ends _ _ _ _ _ _ _ _ _ (first (c .before .before .before .before .before .before .before)) .1
 
 last-before-requires : tie.Need-last-before-requires Inv-loop μ-loop
-last-before-requires c κs = first (c .before .before .before .before .before .before .before .before) .lends .is-given .sounds .1
+last-before-requires c κs = sounds (c .before .before .before .before .before .before .before .before) .1
 
 abbrev Begun : Type 0
 Begun = tie.After-last-before Inv-loop μ-loop
@@ -146,50 +151,50 @@ a-end l = turn-ends _ _ _ _ _ _ _ _ _ (l .loop .inv .0) .0
 b-end : (l : At-loop) → b-lent (told (l .before)) .end ≤ length (l .loop .pool)
 b-end l = turn-ends _ _ _ _ _ _ _ _ _ (l .loop .inv .0) .1
 
-cast-anchor : tie.Need-cast-anchor Inv-loop μ-loop
-cast-anchor c = let h = index c in omega arith
+cast-step : tie.Need-cast-step Inv-loop μ-loop
+cast-step c = let h = index c in omega arith
 
-mul-anchor : tie.Need-mul-anchor Inv-loop μ-loop
-mul-anchor c = let h = index (c) in omega (arith, a-end (c .before), c .before .loop .inv .0 .lends .a-start)
+mul-step : tie.Need-mul-step Inv-loop μ-loop
+mul-step c = let h = index (c) in omega (arith, a-end (c .before), c .before .loop .inv .0 .lends .a-start)
 
-sub-anchor : tie.Need-sub-anchor Inv-loop μ-loop
-sub-anchor c = c .before .loop .inv .0 .lends .a-start
+sub-step : tie.Need-sub-step Inv-loop μ-loop
+sub-step c = c .before .loop .inv .0 .lends .a-start
 
-part-anchor-start : tie.Need-part-anchor-start Inv-loop μ-loop
-part-anchor-start c = c .before .before .loop .inv .0 .lends .a-start
+part-step-start : tie.Need-part-step-start Inv-loop μ-loop
+part-step-start c = c .before .before .loop .inv .0 .lends .a-start
 
-part-anchor-end : tie.Need-part-anchor-end Inv-loop μ-loop
-part-anchor-end c = a-end (c .before .before)
+part-step-end : tie.Need-part-step-end Inv-loop μ-loop
+part-step-end c = a-end (c .before .before)
 
-mul-anchor-2 : tie.Need-mul-anchor-2 Inv-loop μ-loop
-mul-anchor-2 c = let h = index (c .before .before) in omega (arith, b-end (c .before .before .before), c .before .before .before .loop .inv .0 .lends .b-start)
+mul-step-2 : tie.Need-mul-step-2 Inv-loop μ-loop
+mul-step-2 c = let h = index (c .before .before) in omega (arith, b-end (c .before .before .before), c .before .before .before .loop .inv .0 .lends .b-start)
 
-sub-anchor-2 : tie.Need-sub-anchor-2 Inv-loop μ-loop
-sub-anchor-2 c = c .before .before .before .loop .inv .0 .lends .b-start
+sub-step-2 : tie.Need-sub-step-2 Inv-loop μ-loop
+sub-step-2 c = c .before .before .before .loop .inv .0 .lends .b-start
 
-part-anchor-start-2 : tie.Need-part-anchor-start-2 Inv-loop μ-loop
-part-anchor-start-2 c = c .before .before .before .loop .inv .0 .lends .b-start
+part-step-start-2 : tie.Need-part-step-start-2 Inv-loop μ-loop
+part-step-start-2 c = c .before .before .before .loop .inv .0 .lends .b-start
 
-part-anchor-end-2 : tie.Need-part-anchor-end-2 Inv-loop μ-loop
-part-anchor-end-2 c = b-end (c .before .before .before)
+part-step-end-2 : tie.Need-part-step-end-2 Inv-loop μ-loop
+part-step-end-2 c = b-end (c .before .before .before)
 
-anchor-requires : tie.Need-anchor-requires Inv-loop μ-loop
-anchor-requires c κs =
+step-requires : tie.Need-step-requires Inv-loop μ-loop
+step-requires c κs =
     let i = c .before .before .before in
     let l = i .before in
-    step-asks _ _ _ _ _ _ _ _ _ (l .loop .inv .0) (i .loop-test .taken) (λ x y t. Anchors x y t (l .loop .s)) (l .loop .inv .1)
+    step-asks _ _ _ _ _ _ _ _ _ (l .loop .inv .0) (i .loop-test .taken) (λ x y t. Scans x y t (l .loop .s)) (l .loop .inv .1)
 
 -- the label of the instant, and the next state
-stepped : (c : tie.After-anchor Inv-loop μ-loop) →
+stepped : (c : tie.After-step Inv-loop μ-loop) →
     let l = c .before .before .before .before .before in
     let d = told (l .before) in
     let s = entry d in
     let a = rowOf (a-lent d) (s .args .pool .now) in
     let b = rowOf (b-lent d) (s .args .pool .now) in
-    (found (c .anchor .result .label) ≡ result (operationOf Anchor a b) (pos (l .loop .t))) × Anchors a b (pos (l .loop .t + 1)) (c .anchor .result .next)
+    (found (c .step .result .label) ≡ result (operationOf (kindOf (s .args .by)) a b) (pos (l .loop .t))) × Scans a b (pos (l .loop .t + 1)) (c .step .result .next)
 stepped c =
     let i = c .before .before .before .before in
-    step-gave _ _ _ _ _ _ _ _ _ (i .before .loop .inv .0) (i .loop-test .taken) _ (λ x y t. Anchors x y t (c .anchor .result .next)) (c .anchor .ensures)
+    step-gave _ _ _ _ _ _ _ _ _ (i .before .loop .inv .0) (i .loop-test .taken) _ (λ x y t. Scans x y t (c .step .result .next)) (c .step .ensures)
 
 add-store : tie.Need-add-store Inv-loop μ-loop
 add-store c = let h = index (c .before .before .before .before) in omega arith
@@ -239,8 +244,8 @@ returns-2 c =
     let l = c .before .before in
     as-filled (told (l .before)) _ _ (rw (c .outcome .ensures) (turn-done _ _ _ _ _ _ _ _ _ (l .loop .inv .0) (c .before .loop-test .left)))
 
-pub fill-anchor-spec : {M : Type 1} → statement M
-fill-anchor-spec =
+pub fill-pointwise-spec : {M : Type 1} → statement M
+fill-pointwise-spec =
     tie.close
     (tie.spec
     Inv-loop
@@ -263,16 +268,16 @@ fill-anchor-spec =
     part-last-before-end
     last-before-requires
     loop-holds
-    cast-anchor
-    mul-anchor
-    sub-anchor
-    part-anchor-start
-    part-anchor-end
-    mul-anchor-2
-    sub-anchor-2
-    part-anchor-start-2
-    part-anchor-end-2
-    anchor-requires
+    cast-step
+    mul-step
+    sub-step
+    part-step-start
+    part-step-end
+    mul-step-2
+    sub-step-2
+    part-step-start-2
+    part-step-end-2
+    step-requires
     add-store
     store-requires
     same-length

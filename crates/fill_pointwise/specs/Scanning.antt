@@ -6,10 +6,10 @@ use Rattle.calendar.specs.Meaning.{Row}
 use Rattle.calendar.specs.Compute.{anchored}
 use Rattle.calendar.specs.Limits.{poolLimit}
 use Rattle.cursors.specs.Cursor.{cursorAt}
-use Rattle.anchoring.specs.declared.Anchoring.{Anchoring}
+use Rattle.fill_pointwise.specs.declared.Scanning.{Scanning}
 
-pub record Anchors (a b : Row) (t : ℤ) (s : Anchoring) : Type 0 where
+pub record Scans (a b : Row) (t : ℤ) (s : Scanning) : Type 0 where
   pub low : pos 0 ≤ℤ t
   pub high : t ≤ℤ pos poolLimit
   pub cursors : (s .a ≡ cursorAt a t) × (s .b ≡ cursorAt b t)
-  pub keeps : s .number ≡ anchored b (t -ℤ pos 1)
+  pub keeps : s .last ≡ anchored b (t -ℤ pos 1)
