@@ -7,12 +7,11 @@ use mathlib.Core.Bool.{Bool, true, false}
 use mathlib.Core.List.{List, [], _∷_, _++_, List·Memᴰ, List·Memᴰ·head, List·Memᴰ·tail, List·Memᴰ·not-nil, List·Memᴰ·append-cases, List·Memᴰ·eq-of-singleton, Memᴰ·append-left, Memᴰ·append-right}
 use Prim.Native.Nat.{_<_, _≤_}
 use native.Mathlib.Omega.{arith}
-use lib.IntN.{ℤ, pos, negsuc, _+ℤ_, _-ℤ_, _*ℤ_}
+use lib.IntN.{ℤ, pos, _+ℤ_, _-ℤ_, _*ℤ_}
 use lib.Signed.{_≤ℤ_, _<ℤ_}
 use lib.ListN.{length, length-append}
-use Rattle.integers.specs.Parts.{up}
 use Rattle.integers.proofs.Linear.{ints, _∴_}
-use Rattle.integers.proofs.Order.{≤ℤ-antisym, le-or-lt, Cases, cases}
+use Rattle.integers.proofs.Order.{≤ℤ-antisym, le-or-lt, up-less, Cases, cases}
 use Rattle.integers.proofs.Order.Cases.{below, equal, above}
 use Rattle.calendar.specs.Meaning.{Row, meant, Meets}
 use Rattle.calendar.specs.Algebra.{Rising, Lists, positions}
@@ -75,17 +74,12 @@ pub record Walk (whole : Bool) (a b : Row) (i t lo hi u : ℤ) (c d : Cursor) (l
   pub low : t ≤ℤ u
   pub high : u ≤ℤ (t +ℤ pos (b .period))
 
--- a granule has no more of them than a turn has instants
+-- they are counted; a granule has no more of them than a turn has instants
 pub walk-few : (whole : Bool) (a b : Row) (i t lo hi u : ℤ) (c d : Cursor) (looked : Bool) (latest : ℤ) (r : Tally) (w : Walk whole a b i t lo hi u c d looked latest r)
-    → length (w .seen) ≤ b .period
+    → (pos 0 ≤ℤ r .count) × (r .count ≤ℤ pos (b .period))
 walk-few whole a b i t lo hi u c d looked latest r w =
-    let q : pos (length (w .seen)) ≤ℤ pos (b .period) = w .few ∴ w .high ∴ simp ints (omega arith) in
-    omega (arith, simp ints at q)
-
-falls : (x y : ℤ) → x <ℤ y → pos 0 <ℤ y → up x < up y
-falls (pos a) (pos b) h k = omega (arith, simp ints at h)
-falls (negsuc a) (pos b) h k = omega (arith, simp ints at k)
-falls x (negsuc b) h k = absurd (k .lt)
+    let e = tally-fields lo hi (w .seen) r (w .tally) .count-is in
+    (e ∴ simp ints (omega arith), e ∴ w .few ∴ w .high ∴ simp ints (omega arith))
 
 <≤ℤ : {x y z : ℤ} → x <ℤ y → y ≤ℤ z → x ≤ℤ z
 <≤ℤ h k = h ∴ k ∴ simp ints (omega arith)
@@ -119,7 +113,7 @@ module _ (whole : Bool) (a b : Row) (v : Valid a) (w : Valid b) (i t lo hi : ℤ
     -- past u: u′ is the next instant
     module _ (u′ : ℤ) (c′ d′ : Cursor) (next : c′ ≡ cursorAt a u′) (beside : d′ ≡ cursorAt b u′) (step : u′ ≡ u +ℤ pos 1) where
       pub walk-less : ahead (b .period) (t +ℤ pos 1) u′ < ahead (b .period) (t +ℤ pos 1) u
-      walk-less = falls (t +ℤ pos 1 -ℤ u′ +ℤ pos (b .period)) (t +ℤ pos 1 -ℤ u +ℤ pos (b .period)) (step ∴ simp ints (omega arith)) (x .high ∴ simp ints (omega arith))
+      walk-less = up-less (t +ℤ pos 1 -ℤ u′ +ℤ pos (b .period)) (t +ℤ pos 1 -ℤ u +ℤ pos (b .period)) (step ∴ simp ints (omega arith)) (x .high ∴ simp ints (omega arith))
 
       -- a period on, the label is another
       within-turn : ((k : ℤ) → meant b u ≡ some k → k ≡ i) → u′ ≤ℤ (t +ℤ pos (b .period))
@@ -272,8 +266,12 @@ module _ (whole : Bool) (a b : Row) (v : Valid a) (w : Valid b) (i t lo hi : ℤ
         tally-alike lo hi (x .seen) (candidates whole a b i) r (x .tally) (sym (ap (positions lo hi (pos 1)) (n .1) ∙ p))
 
     -- another label of b shows: all instants of the granule are seen
-    pub walk-end : (k : ℤ) → meant b u ≡ some k → (k ≡ i → ⊥) → let all = tallyOf lo hi (candidates whole a b i) in (r .low ≡ all .low) × (r .high ≡ all .high)
-    walk-end k e other = tally-alike lo hi (x .seen) (candidates whole a b i) r (x .tally) (ap (positions lo hi (pos 1)) same)
+    pub walk-end : (k : ℤ) → meant b u ≡ some k → (k ≡ i → ⊥) → let all = tallyOf lo hi (candidates whole a b i) in
+        ((r .low ≡ all .low) × (r .high ≡ all .high)) × (r .count ≡ pos (length (candidates whole a b i)))
+    walk-end k e other = (
+      tally-alike lo hi (x .seen) (candidates whole a b i) r (x .tally) (ap (positions lo hi (pos 1)) same),
+      tally-fields lo hi (x .seen) r (x .tally) .count-is ∙ ap (λ (l : List ℤ). pos (length l)) same,
+    )
       where
         all-seen : (y : ℤ) → meant b y ≡ some i → y <ℤ u
         all-seen y p =

@@ -10,7 +10,7 @@ use lib.ListN.{length, length-append}
 use Rattle.integers.proofs.Linear.{ints, _∴_}
 use Rattle.calendar.specs.Algebra.{positions}
 use Rattle.candidates.specs.declared.Tally.{Tally}
-use Rattle.candidates.specs.Tallies.{firstOr, lastOr, tallyOf, tallyBackOf}
+use Rattle.candidates.specs.Tallies.{firstOr, lastOr, tallyOf}
 use Rattle.candidates.proofs.Positions.{asked, asked-iff, none-before, some-taken}
 
 -- ---- one member more
@@ -41,9 +41,9 @@ last-more d j (x ∷ y ∷ m) = last-more d j (y ∷ m)
 
 -- ---- tallies
 
-pub tally-none : (lo hi : ℤ) → let t : Tally = record { count = pos 0; low = pos 1; high = pos 0 } in (t ≡ tallyOf lo hi []) × (t ≡ tallyBackOf lo hi [])
-unfolding tallyOf tallyBackOf
-tally-none lo hi = (refl, refl)
+pub tally-none : (lo hi : ℤ) → let t : Tally = record { count = pos 0; low = pos 1; high = pos 0 } in t ≡ tallyOf lo hi []
+unfolding tallyOf
+tally-none lo hi = refl
 
 -- the fields of a tally
 pub record Counts (lo hi : ℤ) (l : List ℤ) (t : Tally) : Type 0 where

@@ -23,12 +23,6 @@ pub record Begins (b : Row) (i t : ℤ) : Type 0 where
   pub label : meant b t ≡ some i
   pub least : (u : ℤ) → meant b u ≡ some i → t ≤ℤ u
 
--- t is the last instant of the granule i
-pub record Ends (b : Row) (i t : ℤ) : Type 0 where
-  pub near : Within (2 ^ 58) t
-  pub label : meant b t ≡ some i
-  pub greatest : (u : ℤ) → meant b u ≡ some i → u ≤ℤ t
-
 -- the labels of a's granules in question for b's granule i: those inside it, or those that meet it
 abbrev pub candidates : Bool → Row → Row → ℤ → List ℤ
 candidates true a b i = within a b i
@@ -64,9 +58,3 @@ unfoldable pub tallyOf : ℤ → ℤ → List ℤ → Tally
 tallyOf low high l =
     let m = positions low high (pos 1) l in
     record { count = pos (length l); low = firstOr (pos 1) m; high = lastOr (pos 0) m }
-
--- the same of a falling list
-unfoldable pub tallyBackOf : ℤ → ℤ → List ℤ → Tally
-tallyBackOf low high l =
-    let m = positions low high (pos 1) l in
-    record { count = pos (length l); low = lastOr (pos 1) m; high = firstOr (pos 0) m }

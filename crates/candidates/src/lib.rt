@@ -1,14 +1,15 @@
 // The granules of a in question for one granule of b, counted along a walk over it: those inside it, or those that meet it.
 
 ghost use mathlib.Core.Path.{_≡_};
-ghost use mathlib.Core.List.{List, [], _∷_, _++_, reverse};
+ghost use mathlib.Core.List.{List, [], _∷_, _++_};
 ghost use Prim.Native.Nat.{_^_};
 ghost use lib.IntN.{ℤ, pos};
-ghost use lib.Signed.{_≤ℤ_};
+ghost use lib.Signed.{_≤ℤ_, _<ℤ_};
+ghost use lib.ListN.{length};
 ghost use Rattle.calendar.specs.Questions.{given};
 ghost use Rattle.cursors.specs.Found.{Sound};
 ghost use Rattle.cursors.specs.Cursor.{cursorAt};
-ghost use Rattle.candidates.specs.Tallies.{candidates, Begins, Ends, tallyOf, tallyBackOf};
+ghost use Rattle.candidates.specs.Tallies.{candidates, Begins, tallyOf};
 use candidate::Candidate;
 use cursors::Cursor;
 
@@ -24,7 +25,7 @@ pub struct Tally {
 
 // The tally of no granules.
 fn empty_tally() -> Tally
-    ensures { λ r. ⌜ ((low high : ℤ) → (r ≡ tallyOf low high []) × (r ≡ tallyBackOf low high [])) ⌝ }
+    ensures { λ r. ⌜ ((low high : ℤ) → r ≡ tallyOf low high []) ⌝ }
 {
     Tally {
         count: 0,
@@ -54,29 +55,8 @@ fn counted(t: Tally, j: i64, low: i64, high: i64) -> Tally
     next
 }
 
-// The same of a walk back: j is the one before.
-fn counted_back(t: Tally, j: i64, low: i64, high: i64) -> Tally
-    requires { ⌜ (pos 0 ≤ℤ t .count) × (t .count ≤ℤ pos (2 ^ 23)) ⌝ }
-    ensures { λ r. ⌜ ((l : List ℤ) → t ≡ tallyBackOf low high l → r ≡ tallyBackOf low high (l ++ (j ∷ []))) ⌝ }
-{
-    let count = t.count + 1;
-    let mut next = t;
-    next.count = count;
-    if count < low {
-        return next;
-    }
-    if high < count {
-        return next;
-    }
-    if count == 1 || count == low {
-        next.high = j;
-    }
-    next.low = j;
-    next
-}
-
 // The granules in question for b's granule i, whose first instant is `first`, at the positions from low to high: a walk over the granule, as far as that
-// takes.
+// takes. It has counted them all where they are fewer than high.
 pub fn tallied(
     whole: bool,
     i: i64,
@@ -99,6 +79,8 @@ pub fn tallied(
     requires { ⌜ b ≡ cursorAt (given «b_period» «b_distance» (now «b_cells»)) first ⌝ }
     ensures low { λ r. ⌜ r .low ≡ tallyOf low high (candidates whole (given «a_period» «a_distance» (now («a_cells» .entry))) (given «b_period» «b_distance» (now («b_cells» .entry))) i) .low ⌝ }
     ensures high { λ r. ⌜ r .high ≡ tallyOf low high (candidates whole (given «a_period» «a_distance» (now («a_cells» .entry))) (given «b_period» «b_distance» (now («b_cells» .entry))) i) .high ⌝ }
+    ensures count { λ r. ⌜ (r .count <ℤ high → r .count ≡ pos (length (candidates whole (given «a_period» «a_distance» (now («a_cells» .entry))) (given «b_period» «b_distance» (now («b_cells» .entry))) i))) ⌝ }
+    ensures few { λ r. ⌜ (pos 0 ≤ℤ r .count) × (r .count ≤ℤ «b_period») ⌝ }
 {
     let mut at = first;
     let mut own = a;
@@ -138,73 +120,6 @@ pub fn tallied(
         at += 1;
         own = cursors::cursor_next(a_cells, a_period, a_distance, own);
         other = cursors::cursor_next(b_cells, b_period, b_distance, other);
-    }
-    tally
-}
-
-// The granules in question for b's granule i, whose last instant is `last`, at the positions from low to high, counted from the end: a walk back over
-// the granule.
-pub fn tallied_back(
-    whole: bool,
-    i: i64,
-    last: i64,
-    a: Cursor,
-    b: Cursor,
-    low: i64,
-    high: i64,
-    a_cells: &[i32],
-    a_period: i64,
-    a_distance: i64,
-    b_cells: &[i32],
-    b_period: i64,
-    b_distance: i64,
-) -> Tally
-    requires { ⌜ Sound «a_period» «a_distance» (now «a_cells») ⌝ }
-    requires { ⌜ Sound «b_period» «b_distance» (now «b_cells») ⌝ }
-    requires { ⌜ Ends (given «b_period» «b_distance» (now «b_cells»)) i last ⌝ }
-    requires { ⌜ a ≡ cursorAt (given «a_period» «a_distance» (now «a_cells»)) last ⌝ }
-    requires { ⌜ b ≡ cursorAt (given «b_period» «b_distance» (now «b_cells»)) last ⌝ }
-    ensures low { λ r. ⌜ r .low ≡ tallyBackOf low high (reverse (candidates whole (given «a_period» «a_distance» (now («a_cells» .entry))) (given «b_period» «b_distance» (now («b_cells» .entry))) i)) .low ⌝ }
-    ensures high { λ r. ⌜ r .high ≡ tallyBackOf low high (reverse (candidates whole (given «a_period» «a_distance» (now («a_cells» .entry))) (given «b_period» «b_distance» (now («b_cells» .entry))) i)) .high ⌝ }
-{
-    let mut at = last;
-    let mut own = a;
-    let mut other = b;
-    let mut looked = false;
-    let mut latest = i;
-    let mut tally = empty_tally();
-    while tally.count < high {
-        let candidate = candidate::candidate_at(
-            whole,
-            i,
-            at,
-            own,
-            other,
-            looked,
-            latest,
-            a_cells,
-            a_period,
-            a_distance,
-            b_cells,
-            b_period,
-            b_distance,
-        );
-        match candidate {
-            Candidate::Nothing => {}
-            Candidate::Passed(j) => {
-                looked = true;
-                latest = j;
-            }
-            Candidate::Next(j) => {
-                looked = true;
-                latest = j;
-                tally = counted_back(tally, j, low, high);
-            }
-            Candidate::End => return tally,
-        }
-        at -= 1;
-        own = cursors::cursor_back(a_cells, a_period, a_distance, own);
-        other = cursors::cursor_back(b_cells, b_period, b_distance, other);
     }
     tally
 }

@@ -22,7 +22,6 @@ use Rattle.candidates.specs.declared.Tally.{Tally}
 use Rattle.candidates.specs.declared.candidate.Candidate.{Candidate}
 use Rattle.candidates.specs.declared.candidate.Candidate.the-variants.{Nothing, Passed, Next}
 use Rattle.candidates.specs.Tallies.{CandidateAt, tallyOf}
-use Rattle.candidates.proofs.Tallying.{tally-fields}
 use Rattle.candidates.proofs.Candidates.{Walk, walk-few, walk-less, walk-past, walk-bare, walk-same, walk-passed, walk-next, walk-full, walk-end}
 use Rattle.candidates.proofs.tallied.Proof.Begun.{Inv-loop, μ-loop, Start, I, T, lo, hi, a-row, b-row, a-sound, b-sound, a-rules, b-rules, begins, empty-tally-requires, loop-holds}
 use Rattle.candidates.proofs.tallied.Statement.{statement}
@@ -46,14 +45,20 @@ near l =
     let n = numbers (toZ w64 (ofZ w64 (s .args .b-period))) (toZ w64 (ofZ w64 (s .args .b-distance))) (s .args .b-cells .now) (b-sound s) in
     b .0 ∴ b .1 ∴ n .high ∴ l .loop .inv .low ∴ l .loop .inv .high ∴ simp ints (omega arith)
 
+counted-few : (l : At-loop) → let s = begun l in (pos 0 ≤ℤ l .loop .tally .count) × (l .loop .tally .count ≤ℤ s .args .b-period)
+counted-few l =
+    let s = begun l in
+    let p = s .fits .b-period in
+    let n = numbers (s .args .b-period) (s .args .b-distance) (s .args .b-cells .now) (s .pre .1 .0) in
+    let f = walk-few (s .args .whole) (a-row s) (b-row s) (I s) (T s) (lo s) (hi s) _ _ _ _ _ _ (l .loop .inv) in
+    (f .0, (simp plain at (f .1)) ∴ n .period-is ∴ simp ints (omega arith))
+
 few : (l : At-loop) → (pos 0 ≤ℤ l .loop .tally .count) × (l .loop .tally .count ≤ℤ pos (2 ^ 23))
 few l =
     let s = begun l in
-    let n = numbers (toZ w64 (ofZ w64 (s .args .b-period))) (toZ w64 (ofZ w64 (s .args .b-distance))) (s .args .b-cells .now) (b-sound s) in
-    let x = l .loop .inv in
-    let f = walk-few (s .args .whole) (a-row s) (b-row s) (I s) (T s) (lo s) (hi s) _ _ _ _ _ _ x in
-    let e = tally-fields (lo s) (hi s) (x .seen) (l .loop .tally) (x .tally) .count-is in
-    e ∴ f ∴ n .high ∴ simp ints (omega arith)
+    let n = numbers (s .args .b-period) (s .args .b-distance) (s .args .b-cells .now) (s .pre .1 .0) in
+    let f = counted-few l in
+    (f .0, f .1 ∴ n .period-is ∴ n .high ∴ simp ints (omega arith))
 
 -- what the instant says
 
@@ -110,7 +115,8 @@ returns c =
     let f = s .fits .low in
     let h = s .fits .high in
     let y = subst (Says d) (c .enum-told2 .given .1) (says d) in
-    simp plain at (walk-end (s .args .whole) (a-row s) (b-row s) (a-rules s) (b-rules s) (I s) (T s) (lo s) (hi s) (begins s) _ _ _ _ _ _ (l .loop .inv) (y .0) (y .1) (y .2))
+    let e = simp plain at (walk-end (s .args .whole) (a-row s) (b-row s) (a-rules s) (b-rules s) (I s) (T s) (lo s) (hi s) (begins s) _ _ _ _ _ _ (l .loop .inv) (y .0) (y .1) (y .2)) in
+    (e .0 .0, (e .0 .1, (λ _. e .1, counted-few l)))
 
 returns-2 : tie.Need-returns-2 Inv-loop μ-loop
 returns-2 c =
@@ -125,7 +131,8 @@ returns-2 c =
     let h = s .fits .high in
     let n : SFits w64 (l .loop .tally .count) = few l .0 ∴ few l .1 ∴ simp ints (omega arith) in
     let e : s .args .high ≤ℤ l .loop .tally .count = simp plain at (c .if1 .left) in
-    simp plain at (walk-full (s .args .whole) (a-row s) (b-row s) (a-rules s) (b-rules s) (I s) (T s) (lo s) (hi s) (begins s) _ _ _ _ _ _ (l .loop .inv) (simp plain e))
+    let w = simp plain at (walk-full (s .args .whole) (a-row s) (b-row s) (a-rules s) (b-rules s) (I s) (T s) (lo s) (hi s) (begins s) _ _ _ _ _ _ (l .loop .inv) (simp plain e)) in
+    (w .0, (w .1, (λ k. absurd (k ∴ e ∴ simp ints (omega arith)), counted-few l)))
 
 -- ---- the next instant
 

@@ -94,4 +94,4 @@ empty-tally-requires c κs = tt
 pub loop-holds : tie.Need-loop-holds Inv-loop μ-loop
 loop-holds c =
     let s = c .before in
-    walk-start (s .args .whole) (a-row s) (b-row s) (a-rules s) (b-rules s) (I s) (T s) (lo s) (hi s) (begins s) _ _ _ _ (a-begins s) (b-begins s) (c .empty-tally .ensures (lo s) (hi s) .0)
+    walk-start (s .args .whole) (a-row s) (b-row s) (a-rules s) (b-rules s) (I s) (T s) (lo s) (hi s) (begins s) _ _ _ _ (a-begins s) (b-begins s) (c .empty-tally .ensures (lo s) (hi s))

@@ -1,73 +1,199 @@
--- `select_granules::taking::picked_at` meets its contract: Pick counts from the beginning or from the end.
+-- `select_granules::taking::picked_at` meets its contract: Pick takes what the tally from its start on says.
 -- Assumes nothing.
-use mathlib.Core.Path.{_≡_}
-use mathlib.Core.Logic.{⊎-elim}
+use borrow.Author.Needs.{sfits-of}
+use mathlib.Core.Path.{_≡_, refl, _∙_, ap}
+use mathlib.Core.List.{List}
+use Prim.Native.Nat.{_^_}
 use native.Mathlib.Omega.{arith}
-use lib.IntN.{ℤ, pos}
-use lib.Signed.{_≤ℤ_, _<ℤ_}
+use lib.IntN.{ℤ, pos, _+ℤ_, _-ℤ_}
+use lib.ListN.{length}
 use mir.Syntax.{w64}
 use mir.Val.{SFits}
 use Rattle.integers.proofs.Linear.{ints, _∴_}
 use Rattle.integers.proofs.Machine.{plain}
-use Rattle.integers.proofs.Order.{≤ℤ-antisym, le-or-lt}
+use Rattle.calendar.specs.Meaning.{Row}
+use Rattle.calendar.specs.Algebra.{pickStart}
+use Rattle.calendar.specs.Questions.{given}
+use Rattle.granules.specs.Valid.{Valid}
+use Rattle.granules.proofs.Questions.{first-at-most}
+use Rattle.cursors.specs.Found.{Within}
+use Rattle.cursors.proofs.Numbers.{valid}
+use Rattle.cursors.proofs.Bounds.{first-bounds}
+use Rattle.candidates.specs.Tallies.{candidates, Begins, tallyOf}
+use Rattle.candidates.proofs.Tallying.{tally-fields}
+use Rattle.candidates.proofs.Candidates.{candidates-lists}
+use Rattle.select_granules.specs.declared.Picked.{Picked}
+use Rattle.select_granules.specs.Memos.{pickedOf}
+use Rattle.select_granules.proofs.Starts.{picks}
 use Rattle.select_granules.proofs.taking.picked_at.Statement.{statement}
 use Rattle.select_granules.proofs.taking.picked_at.Tie as tie
 
-x-fits : (s : tie.Start) → SFits w64 (s .args .pick .x)
-x-fits s = let l = s .pre .1 .1 .0 in l .x-low ∴ l .x-high ∴ simp ints (omega arith)
+abbrev a-row : tie.Start → Row
+a-row s = given (s .args .a-period) (s .args .a-distance) (s .args .a-cells .now)
 
--- ---- from the beginning
+abbrev b-row : tie.Start → Row
+b-row s = given (s .args .b-period) (s .args .b-distance) (s .args .b-cells .now)
 
-picked-from-first-requires : tie.Need-picked-from-first-requires
-picked-from-first-requires c κs =
-    let s = c .before .before .before in
+-- the granules in question
+abbrev asked : tie.Start → List ℤ
+asked s = candidates (s .args .whole) (a-row s) (b-row s) (s .args .i)
+
+a-rules : (s : tie.Start) → Valid (a-row s)
+a-rules s = valid (s .args .a-period) (s .args .a-distance) (s .args .a-cells .now) (s .pre .0)
+
+b-rules : (s : tie.Start) → Valid (b-row s)
+b-rules s = valid (s .args .b-period) (s .args .b-distance) (s .args .b-cells .now) (s .pre .1 .0)
+
+-- ---- the first instant of the granule
+
+first-of-requires : tie.Need-first-of-requires
+first-of-requires s κs =
     let p = s .fits .a-period in
     let n = s .fits .a-distance in
     let q = s .fits .b-period in
     let m = s .fits .b-distance in
     let i = s .fits .i in
     let t = s .fits .t in
-    let x = x-fits s in
-    let r = s .pre .1 .1 in
-    simp plain (s .pre .0, (s .pre .1 .0, (r .0, (simp plain at (c .if1 .taken), r .1))))
+    let r = s .pre .1 .1 .1 in
+    simp plain (s .pre .1 .0, (s .pre .0, (r .0, (r .1 .0, (r .1 .1 .1, r .1 .1 .0)))))
+
+first-fits : (c : tie.After-first-of) → SFits w64 (c .first-of .result .at)
+first-fits c = let l = c .first-of .ensures .1 .1 .1 in l .0 ∴ l .1 ∴ simp ints (omega arith)
+
+begins : (c : tie.After-first-of) → let s = c .before in Begins (b-row s) (s .args .i) (c .first-of .result .at)
+begins c =
+    let s = c .before in
+    let q = s .fits .b-period in
+    let m = s .fits .b-distance in
+    let i = s .fits .i in
+    let r = b-row s in
+    let f = first-bounds r (b-rules s) (s .args .t) (s .args .i) (s .pre .1 .1 .1 .1 .0) in
+    let e = simp plain at (c .first-of .ensures .0) in
+    record { near = c .first-of .ensures .1 .1 .1; label = rw e (f .0); least = rw e (first-at-most r (b-rules s) (s .args .i)) }
+
+-- ---- the positions
+
+pick-start-requires : tie.Need-pick-start-requires
+pick-start-requires c κs =
+    let s = c .before in
+    let p = s .fits .a-period in
+    let n = s .fits .a-distance in
+    let q = s .fits .b-period in
+    let m = s .fits .b-distance in
+    let i = s .fits .i in
+    let e = c .first-of .ensures .1 in
+    simp plain (s .pre .0, (s .pre .1 .0, (s .pre .1 .1 .0, (begins c, (simp plain at (e .0), simp plain at (e .1 .0))))))
+
+low-is : (c : tie.After-pick-start) → let s = c .before .before in
+    (c .pick-start .result ≡ pickStart (s .args .pick .x) (length (asked s))) × Within (2 ^ 23) (c .pick-start .result)
+low-is c =
+    let s = c .before .before in
+    let p = s .fits .a-period in
+    let n = s .fits .a-distance in
+    let q = s .fits .b-period in
+    let m = s .fits .b-distance in
+    let i = s .fits .i in
+    simp plain at (c .pick-start .ensures)
+
+-- the numbers on the way
+record Sums (low y : ℤ) : Type 0 where
+  pub low-fits : SFits w64 low
+  pub y-fits : SFits w64 y
+  pub sum-fits : SFits w64 (low +ℤ y)
+  pub high-fits : SFits w64 (low +ℤ y -ℤ pos 1)
+
+sums : (c : tie.After-pick-start) → Sums (c .pick-start .result) (c .before .before .args .pick .y)
+sums c =
+    let l = c .before .before .pre .1 .1 .0 in
+    let n = low-is c .1 in
+    record {
+      low-fits = n .0 ∴ n .1 ∴ simp ints (omega arith);
+      y-fits = l .y-low ∴ l .y-high ∴ simp ints (omega arith);
+      sum-fits = n .0 ∴ n .1 ∴ l .y-low ∴ l .y-high ∴ simp ints (omega arith);
+      high-fits = n .0 ∴ n .1 ∴ l .y-low ∴ l .y-high ∴ simp ints (omega arith);
+    }
+
+add-tallied : tie.Need-add-tallied
+add-tallied c =
+    let n = sums (c .before .before) in
+    let l = n .low-fits in
+    let y = n .y-fits in
+    simp plain (n .sum-fits)
+
+sub-tallied : tie.Need-sub-tallied
+sub-tallied c =
+    let n = sums (c .before .before) in
+    let l = n .low-fits in
+    let y = n .y-fits in
+    let e = n .sum-fits in
+    simp plain (n .high-fits)
+
+-- ---- what stands there
+
+tallied-requires : tie.Need-tallied-requires
+tallied-requires c κs =
+    let d = c .before .before .before .before in
+    let s = d .before in
+    let p = s .fits .a-period in
+    let n = s .fits .a-distance in
+    let q = s .fits .b-period in
+    let m = s .fits .b-distance in
+    let i = s .fits .i in
+    let t = first-fits d in
+    let e = d .first-of .ensures .1 in
+    simp plain (s .pre .0, (s .pre .1 .0, (begins d, (simp plain at (e .1 .0), simp plain at (e .0)))))
+
+picked-of-requires : tie.Need-picked-of-requires
+picked-of-requires c κs = tt
+
+abbrev started : tie.After-tallied → tie.After-pick-start
+started c = c .before .before .before .before
+
+abbrev begun : tie.After-tallied → tie.Start
+begun c = started c .before .before
+
+abbrev low : tie.After-tallied → ℤ
+low c = started c .pick-start .result
+
+abbrev high : tie.After-tallied → ℤ
+high c = low c +ℤ begun c .args .pick .y -ℤ pos 1
+
+ends-are : (c : tie.After-tallied) → let all = tallyOf (low c) (high c) (asked (begun c)) in
+    (c .tallied .result .low ≡ all .low) × (c .tallied .result .high ≡ all .high)
+ends-are c =
+    let s = begun c in
+    let p = s .fits .a-period in
+    let n = s .fits .a-distance in
+    let q = s .fits .b-period in
+    let m = s .fits .b-distance in
+    let i = s .fits .i in
+    let x = sums (started c) .low-fits in
+    let y = sums (started c) .y-fits in
+    let e = sums (started c) .sum-fits in
+    let h = sums (started c) .high-fits in
+    (simp plain at (c .tallied .ensures .0), simp plain at (c .tallied .ensures .1 .0))
+
+picked-is : (c : tie.After-picked-of) → let t = c .before .before .before in c .picked-of .result ≡ pickedOf (begun t .args .i) (t .tallied .result .low) (t .tallied .result .high)
+picked-is c =
+    let t = c .before .before .before in
+    let i = begun t .fits .i in
+    let l : SFits w64 (t .tallied .result .low) = sfits-of (c .before .before .struct-told3 .given .1 .0 .1) in
+    let h : SFits w64 (t .tallied .result .high) = sfits-of (c .before .before .struct-told3 .given .1 .1 .0 .1) in
+    simp plain at (c .picked-of .ensures)
 
 returns : tie.Need-returns
 returns c =
-    let s = c .before .before .before .before in
-    let p = s .fits .a-period in
-    let n = s .fits .a-distance in
-    let q = s .fits .b-period in
-    let m = s .fits .b-distance in
-    let i = s .fits .i in
-    simp plain at (c .picked-from-first .ensures)
-
--- ---- from the end
-
-below : {x : ℤ} → x ≤ℤ pos 0 → ¬ (x ≡ pos 0) → x <ℤ pos 0
-below {x} h f = ⊎-elim (λ (g : pos 0 ≤ℤ x). absurd (f (≤ℤ-antisym h g))) (λ g. g) (le-or-lt (pos 0) x)
-
-picked-from-last-requires : tie.Need-picked-from-last-requires
-picked-from-last-requires c κs =
-    let s = c .before .before .before in
-    let p = s .fits .a-period in
-    let n = s .fits .a-distance in
-    let q = s .fits .b-period in
-    let m = s .fits .b-distance in
-    let i = s .fits .i in
-    let t = s .fits .t in
-    let x = x-fits s in
-    let r = s .pre .1 .1 in
-    simp plain (s .pre .0, (s .pre .1 .0, (r .0, (below (simp plain at (c .if1 .left)) (r .0 .not-zero), r .1))))
-
-returns-2 : tie.Need-returns-2
-returns-2 c =
-    let s = c .before .before .before .before in
-    let p = s .fits .a-period in
-    let n = s .fits .a-distance in
-    let q = s .fits .b-period in
-    let m = s .fits .b-distance in
-    let i = s .fits .i in
-    simp plain at (c .picked-from-last .ensures)
+    let t = c .before .before .before in
+    let s = begun t in
+    let e = picked-is c in
+    let f = ends-are t in
+    let all = tally-fields (low t) (high t) (asked s) (tallyOf (low t) (high t) (asked s)) refl in
+    let r = candidates-lists (s .args .whole) (a-row s) (b-row s) (a-rules s) (b-rules s) (s .args .i) .rising in (
+      (ap (λ (m : Picked). m .known) e, ap (λ (m : Picked). m .of) e),
+      picks (s .args .pick) (asked s) r (low t) (high t) (low-is (started t) .0) refl (s .pre .1 .1 .0 .y-low) (c .picked-of .result)
+          (ap (λ (m : Picked). m .low) e ∙ f .0 ∙ all .low-is)
+          (ap (λ (m : Picked). m .high) e ∙ f .1 ∙ all .high-is),
+    )
 
 pub picked-at-spec : {M : Type 1} → statement M
-picked-at-spec = tie.close (tie.spec picked-from-first-requires picked-from-last-requires returns returns-2)
+picked-at-spec = tie.close (tie.spec first-of-requires pick-start-requires add-tallied sub-tallied tallied-requires picked-of-requires returns)
