@@ -24,8 +24,9 @@ use Rattle.granules.proofs.Inside.{inside-iff, meeting-lists, within-lists}
 use Rattle.cursors.specs.declared.Cursor.{Cursor}
 use Rattle.cursors.specs.Cursor.{cursorAt}
 use Rattle.granule_ends.proofs.Walks.{ahead}
+use Rattle.containment.specs.First.{FirstInstant}
 use Rattle.candidates.specs.declared.Tally.{Tally}
-use Rattle.candidates.specs.Tallies.{candidates, Begins, counts, New, tallyOf}
+use Rattle.candidates.specs.Tallies.{candidates, counts, New, tallyOf}
 use Rattle.candidates.proofs.Positions.{front-of, positions-front}
 use Rattle.candidates.proofs.Tallying.{tally-fields, tally-alike}
 
@@ -92,7 +93,7 @@ rising-more (x ∷ l) k r h =
     (λ j m. ⊎-elim (λ (n : List·Memᴰ j l). rising-head x l r j n) (λ (n : List·Memᴰ j (k ∷ [])). h x (List·Memᴰ·head refl) ∴ List·Memᴰ·eq-of-singleton n ∴ simp ints (omega arith)) (List·Memᴰ·append-cases l m))
     (rising-more l k (rising-tail x l r) (λ j m. h j (List·Memᴰ·tail m)))
 
-module _ (whole : Bool) (a b : Row) (v : Valid a) (w : Valid b) (i t lo hi : ℤ) (g : Begins b i t) where
+module _ (whole : Bool) (a b : Row) (v : Valid a) (w : Valid b) (i t lo hi : ℤ) (g : FirstInstant b i t) where
   pub walk-start : (c d : Cursor) (k : ℤ) (r : Tally) → c ≡ cursorAt a t → d ≡ cursorAt b t → r ≡ tallyOf lo hi [] → Walk whole a b i t lo hi t c d false k r
   walk-start c d k r p q s = record {
     a-cursor = p;

@@ -4,24 +4,15 @@ use mathlib.Core.Logic.{_⊎_}
 use mathlib.Core.Option.{none, some}
 use mathlib.Core.Bool.{Bool, true, false}
 use mathlib.Core.List.{List, [], _∷_}
-use Prim.Native.Nat.{_^_}
 use lib.IntN.{ℤ, pos}
-use lib.Signed.{_≤ℤ_}
 use lib.ListN.{length}
 use Rattle.calendar.specs.Meaning.{Row, meant}
 use Rattle.calendar.specs.Algebra.{positions}
 use Rattle.calendar.specs.Lists.{last}
 use Rattle.calendar.specs.Granules.{inside, within, meeting}
-use Rattle.cursors.specs.Found.{Within}
 use Rattle.candidates.specs.declared.Tally.{Tally}
 use Rattle.candidates.specs.declared.candidate.Candidate.{Candidate}
 use Rattle.candidates.specs.declared.candidate.Candidate.the-variants.{Nothing, Passed, Next, End}
-
--- t is the first instant of the granule i, with room for a walk of a turn
-pub record Begins (b : Row) (i t : ℤ) : Type 0 where
-  pub near : Within (2 ^ 58) t
-  pub label : meant b t ≡ some i
-  pub least : (u : ℤ) → meant b u ≡ some i → t ≤ℤ u
 
 -- the labels of a's granules in question for b's granule i: those inside it, or those that meet it
 abbrev pub candidates : Bool → Row → Row → ℤ → List ℤ

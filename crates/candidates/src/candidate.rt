@@ -5,11 +5,11 @@ ghost use Prim.Native.Nat.{_^_};
 ghost use Rattle.calendar.specs.Questions.{given};
 ghost use Rattle.cursors.specs.Found.{Sound, Within};
 ghost use Rattle.cursors.specs.Cursor.{cursorAt};
-ghost use Rattle.containment.specs.Sides.{Stands};
+ghost use Rattle.containment.specs.Sides.{Overlaps};
 ghost use Rattle.candidates.specs.Tallies.{counts, CandidateAt};
-use containment::Place;
+use containment::CursorPair;
+use containment::seen::Seen;
 use cursors::Cursor;
-use cursors::Found;
 
 // What an instant says of the granules in question: none shows that was not looked at, one shows that is not in question, the next one
 // shows, or b's granule is over.
@@ -29,11 +29,11 @@ fn counts_at(
     b_cells: &[i32],
     b_period: i64,
     b_distance: i64,
-    place: Place,
+    place: CursorPair,
 ) -> bool
     requires { ⌜ Sound «a_period» «a_distance» (now «a_cells») ⌝ }
     requires { ⌜ Sound «b_period» «b_distance» (now «b_cells») ⌝ }
-    requires { ⌜ Stands (given «a_period» «a_distance» (now «a_cells»)) (given «b_period» «b_distance» (now «b_cells»)) place ⌝ }
+    requires { ⌜ Overlaps (given «a_period» «a_distance» (now «a_cells»)) (given «b_period» «b_distance» (now «b_cells»)) place ⌝ }
     ensures { λ r. ⌜ r ≡ counts whole (given «a_period» «a_distance» (now («a_cells» .entry))) (given «b_period» «b_distance» (now («b_cells» .entry))) (place .i) (place .k) ⌝ }
 {
     if !whole {
@@ -74,41 +74,48 @@ pub fn candidate_at(
     requires { ⌜ b ≡ cursorAt (given «b_period» «b_distance» (now «b_cells»)) t ⌝ }
     ensures { λ r. ⌜ CandidateAt whole (given «a_period» «a_distance» (now («a_cells» .entry))) (given «b_period» «b_distance» (now («b_cells» .entry))) i t looked latest r ⌝ }
 {
-    let own = cursors::cursor_label(b_cells, b_period, b_distance, b);
-    let Found::At(k) = own else {
-        return Candidate::Nothing;
-    };
-    if k != i {
-        return Candidate::End;
-    }
-    let label = cursors::cursor_label(a_cells, a_period, a_distance, a);
-    let Found::At(j) = label else {
-        return Candidate::Nothing;
-    };
-    if looked {
-        if j == latest {
-            return Candidate::Nothing;
-        }
-    }
-    let place = Place {
-        b: a,
-        k: j,
-        a: b,
+    let seen = containment::seen::seen_at(
         i,
-    };
-    let in_question = counts_at(
-        whole,
-        a_cells,
-        a_period,
-        a_distance,
+        t,
+        b,
+        a,
         b_cells,
         b_period,
         b_distance,
-        place,
+        a_cells,
+        a_period,
+        a_distance,
     );
-    if in_question {
-        Candidate::Next(j)
-    } else {
-        Candidate::Passed(j)
+    match seen {
+        Seen::Off => return Candidate::Nothing,
+        Seen::Bare => return Candidate::Nothing,
+        Seen::Over => return Candidate::End,
+        Seen::Of(j) => {
+            if looked {
+                if j == latest {
+                    return Candidate::Nothing;
+                }
+            }
+            let place = CursorPair {
+                b: a,
+                k: j,
+                a: b,
+                i,
+            };
+            let in_question = counts_at(
+                whole,
+                a_cells,
+                a_period,
+                a_distance,
+                b_cells,
+                b_period,
+                b_distance,
+                place,
+            );
+            if in_question {
+                return Candidate::Next(j);
+            }
+            Candidate::Passed(j)
+        }
     }
 }

@@ -9,7 +9,8 @@ ghost use lib.ListN.{length};
 ghost use Rattle.calendar.specs.Questions.{given};
 ghost use Rattle.cursors.specs.Found.{Sound};
 ghost use Rattle.cursors.specs.Cursor.{cursorAt};
-ghost use Rattle.candidates.specs.Tallies.{candidates, Begins, tallyOf};
+ghost use Rattle.containment.specs.First.{FirstInstant};
+ghost use Rattle.candidates.specs.Tallies.{candidates, tallyOf};
 use candidate::Candidate;
 use cursors::Cursor;
 
@@ -74,7 +75,7 @@ pub fn tallied(
 ) -> Tally
     requires { ⌜ Sound «a_period» «a_distance» (now «a_cells») ⌝ }
     requires { ⌜ Sound «b_period» «b_distance» (now «b_cells») ⌝ }
-    requires { ⌜ Begins (given «b_period» «b_distance» (now «b_cells»)) i first ⌝ }
+    requires { ⌜ FirstInstant (given «b_period» «b_distance» (now «b_cells»)) i first ⌝ }
     requires { ⌜ a ≡ cursorAt (given «a_period» «a_distance» (now «a_cells»)) first ⌝ }
     requires { ⌜ b ≡ cursorAt (given «b_period» «b_distance» (now «b_cells»)) first ⌝ }
     ensures low { λ r. ⌜ r .low ≡ tallyOf low high (candidates whole (given «a_period» «a_distance» (now («a_cells» .entry))) (given «b_period» «b_distance» (now («b_cells» .entry))) i) .low ⌝ }

@@ -17,7 +17,7 @@ ghost use Rattle.kinds.specs.Stands.{rowIn};
 ghost use Rattle.fill_shared.specs.Given.{Given};
 ghost use Rattle.fill_shared.specs.Placed.{Placed, over, Fills};
 ghost use Rattle.combining.specs.Lying.{liesAt};
-use containment::Place;
+use containment::CursorPair;
 use cursors::Cursor;
 use cursors::Found;
 use fill_shared::Filled;
@@ -57,7 +57,7 @@ fn lies(
     let Found::At(i) = outer else {
         return false;
     };
-    let place = Place { b, k, a, i };
+    let place = CursorPair { b, k, a, i };
     if fresh {
         containment::inside_from_first(
             b_cells,

@@ -15,9 +15,9 @@ use Rattle.cursors.specs.declared.Cursor.{Cursor}
 use Rattle.cursors.specs.Found.{Near}
 use Rattle.cursors.specs.Cursor.{cursorAt}
 use Rattle.cursors.proofs.Cursors.{cursor-at}
-use Rattle.containment.specs.declared.Place.{Place}
+use Rattle.containment.specs.declared.CursorPair.{CursorPair}
 use Rattle.containment.specs.Places.{instant, at, Beside}
-use Rattle.containment.specs.Sides.{Stands}
+use Rattle.containment.specs.Sides.{Overlaps}
 
 pub instant-is : (r : Row) → Valid r → (c : Cursor) (u : ℤ) → c ≡ cursorAt r u → instant r c ≡ u
 unfolding instant
@@ -28,9 +28,9 @@ instant-is r v c u e =
     ∙ ap (λ (z : ℤ). pos (r .period) *ℤ floorDiv u (r .period) +ℤ z) (a .index-is)
     ∙ sym (floor-eq (r .period) (v .positive .0) u)
 
-pub stands : (b a : Row) → Valid b → (p : Place) (t : ℤ) → negℤ (pos (2 ^ 59)) ≤ℤ t → t ≤ℤ pos (2 ^ 59)
-    → p .b ≡ cursorAt b t → meant b t ≡ some (p .k) → p .a ≡ cursorAt a t → meant a t ≡ some (p .i) → Stands b a p
-stands b a v p t lo hi bc bl ac al =
+pub overlaps : (b a : Row) → Valid b → (p : CursorPair) (t : ℤ) → negℤ (pos (2 ^ 59)) ≤ℤ t → t ≤ℤ pos (2 ^ 59)
+    → p .b ≡ cursorAt b t → meant b t ≡ some (p .k) → p .a ≡ cursorAt a t → meant a t ≡ some (p .i) → Overlaps b a p
+overlaps b a v p t lo hi bc bl ac al =
     let e = sym (instant-is b v (p .b) t bc) in
     record {
       low = subst (λ (u : ℤ). negℤ (pos (2 ^ 59)) ≤ℤ u) e lo;
@@ -42,13 +42,13 @@ stands b a v p t lo hi bc bl ac al =
     }
 
 -- a step from the place p to the place q, of the instant u
-pub record Moved (b a : Row) (p q : Place) (u : ℤ) : Type 0 where
+pub record Moved (b a : Row) (p q : CursorPair) (u : ℤ) : Type 0 where
   pub b-cursor : q .b ≡ cursorAt b u
   pub a-cursor : q .a ≡ cursorAt a u
   pub k-kept : q .k ≡ p .k
   pub i-kept : q .i ≡ p .i
 
-module _ (b a : Row) (v : Valid b) (p q : Place) (u : ℤ) (m : Moved b a p q u) where
+module _ (b a : Row) (v : Valid b) (p q : CursorPair) (u : ℤ) (m : Moved b a p q u) where
   pub moved-at : at b q ≡ u
   moved-at = instant-is b v (q .b) u (m .b-cursor)
 

@@ -16,15 +16,15 @@ use Rattle.granules.proofs.Tests.{true-or-false, true≢false, and-iff, or-iff,
 use Rattle.granules.proofs.Lists.{all-iff, first-least}
 use Rattle.granules.proofs.Granule.{granule-lists}
 use Rattle.granules.proofs.Inside.{inside-iff}
-use Rattle.containment.specs.declared.Place.{Place}
+use Rattle.containment.specs.declared.CursorPair.{CursorPair}
 use Rattle.containment.specs.Places.{at}
 use Rattle.containment.specs.Sides.{insideFrom, insideUpTo}
 
 -- the instants of b's granule for which s holds are in a's
-abbrev pub Held : Row → Row → Place → (ℤ → Type 0) → Type 0
+abbrev pub Held : Row → Row → CursorPair → (ℤ → Type 0) → Type 0
 Held b a p s = (u : ℤ) → s u → meant b u ≡ some (p .k) → meant a u ≡ some (p .i)
 
-module _ (b a : Row) (v : Valid b) (p : Place) where
+module _ (b a : Row) (v : Valid b) (p : CursorPair) where
   -- as a test, over the instants that f does not pass over
   held-iff : (f : ℤ → Bool) → (all (λ u. f u || is (p .i) (meant a u)) (granule b (p .k)) ≡ true) ↔ Held b a p (λ u. f u ≡ false)
   held-iff f =

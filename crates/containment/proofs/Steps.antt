@@ -8,7 +8,7 @@ use lib.IntN.{ℤ}
 use Rattle.calendar.specs.Meaning.{Row, meant}
 use Rattle.calendar.specs.Lists.{equal, is}
 use Rattle.granules.proofs.Tests.{equal-iff, false-iff, is-iff}
-use Rattle.containment.specs.declared.Place.{Place}
+use Rattle.containment.specs.declared.CursorPair.{CursorPair}
 use Rattle.containment.specs.declared.Step.{Step}
 use Rattle.containment.specs.declared.Step.the-variants.{On, Done, Out}
 use Rattle.containment.specs.Places.{at, stepAt}
@@ -46,6 +46,6 @@ said-is {x} {k} {i} (outside e f) =
     ∙ ap (λ (t : Bool). cond t (cond (is i x) On Out) Done) (equal-iff k k .1 refl)
     ∙ ap (λ (t : Bool). cond t On Out) (false-iff (is-iff i x) .1 f)
 
-pub step-iff : (b a : Row) (p : Place) (s : Step) → (stepAt b a p ≡ s) ↔ Says (meant b (at b p)) (meant a (at b p)) (p .k) (p .i) s
+pub step-iff : (b a : Row) (p : CursorPair) (s : Step) → (stepAt b a p ≡ s) ↔ Says (meant b (at b p)) (meant a (at b p)) (p .k) (p .i) s
 unfolding stepAt
 step-iff b a p s = (λ e. subst (Says (meant b (at b p)) (meant a (at b p)) (p .k) (p .i)) e (says (meant b (at b p)) (meant a (at b p)) (p .k) (p .i)), said-is)

@@ -16,17 +16,17 @@ use Rattle.granules.proofs.Tests.{none≢some, false-iff}
 use Rattle.granules.proofs.Questions.{first-at-most, last-at-least}
 use Rattle.cursors.specs.Cursor.{cursorAt}
 use Rattle.granule_ends.proofs.Walks.{Back, Forth, ahead, left, back-start, back-past, back-to, back-end, back-less, forth-start, forth-past, forth-to, forth-end, forth-less}
-use Rattle.containment.specs.declared.Place.{Place}
+use Rattle.containment.specs.declared.CursorPair.{CursorPair}
 use Rattle.containment.specs.declared.Step.the-variants.{On, Done, Out}
 use Rattle.containment.specs.Places.{at, stepAt}
-use Rattle.containment.specs.Sides.{Stands, insideFrom, insideUpTo}
+use Rattle.containment.specs.Sides.{Overlaps, insideFrom, insideUpTo}
 use Rattle.containment.proofs.Places.{Moved, moved-at, moved-b, moved-a}
 use Rattle.containment.proofs.Steps.{Says, step-iff}
 use Rattle.containment.proofs.Steps.Says.{past, within, behind, outside}
 use Rattle.containment.proofs.Sides.{Held, from-iff, up-to-iff}
 
 -- a walk on from a place: it is at the place p, and what it passed of b's granule is in a's
-pub record Ahead (b a : Row) (from p : Place) : Type 0 where
+pub record Ahead (b a : Row) (from p : CursorPair) : Type 0 where
   pub same-k : p .k ≡ from .k
   pub same-i : p .i ≡ from .i
   pub end : ℤ
@@ -35,7 +35,7 @@ pub record Ahead (b a : Row) (from p : Place) : Type 0 where
   pub held : Held b a from (λ u. (at b from ≤ℤ u) × (u ≤ℤ at b p))
 
 -- a walk back
-pub record Behind (b a : Row) (from p : Place) : Type 0 where
+pub record Behind (b a : Row) (from p : CursorPair) : Type 0 where
   pub same-k : p .k ≡ from .k
   pub same-i : p .i ≡ from .i
   pub end : ℤ
@@ -44,11 +44,11 @@ pub record Behind (b a : Row) (from p : Place) : Type 0 where
   pub held : Held b a from (λ u. (at b p ≤ℤ u) × (u ≤ℤ at b from))
 
 -- one instant more
-held-more : (b a : Row) (from : Place) {x y : ℤ → Type 0} (w : ℤ) → ((u : ℤ) → y u → x u ⊎ (u ≡ w)) → Held b a from x → (meant b w ≡ some (from .k) → meant a w ≡ some (from .i)) → Held b a from y
+held-more : (b a : Row) (from : CursorPair) {x y : ℤ → Type 0} (w : ℤ) → ((u : ℤ) → y u → x u ⊎ (u ≡ w)) → Held b a from x → (meant b w ≡ some (from .k) → meant a w ≡ some (from .i)) → Held b a from y
 held-more b a from w more h s u m e = ⊎-elim (λ n. h u n e) (λ n. ap (meant a) n ∙ s (ap (meant b) (sym n) ∙ e)) (more u m)
 
 -- both walks start at the place
-module _ (b a : Row) (v : Valid b) (from : Place) (s : Stands b a from) where
+module _ (b a : Row) (v : Valid b) (from : CursorPair) (s : Overlaps b a from) where
   pub ahead-start : Ahead b a from from
   ahead-start = record {
     same-k = refl;
@@ -71,7 +71,7 @@ module _ (b a : Row) (v : Valid b) (from : Place) (s : Stands b a from) where
 
 -- ---- on, from p to q
 
-module _ (b a : Row) (v : Valid b) (from p q : Place) (w : Ahead b a from p) (to : Moved b a p q (at b p +ℤ pos 1)) where
+module _ (b a : Row) (v : Valid b) (from p q : CursorPair) (w : Ahead b a from p) (to : Moved b a p q (at b p +ℤ pos 1)) where
   step-ahead : at b q ≡ at b p +ℤ pos 1
   step-ahead = moved-at b a v p q (at b p +ℤ pos 1) to
 
@@ -128,7 +128,7 @@ module _ (b a : Row) (v : Valid b) (from p q : Place) (w : Ahead b a from p) (to
 
 -- ---- back, from p to q
 
-module _ (b a : Row) (v : Valid b) (from p q : Place) (w : Behind b a from p) (to : Moved b a p q (at b p -ℤ pos 1)) where
+module _ (b a : Row) (v : Valid b) (from p q : CursorPair) (w : Behind b a from p) (to : Moved b a p q (at b p -ℤ pos 1)) where
   step-behind : at b q ≡ at b p -ℤ pos 1
   step-behind = moved-at b a v p q (at b p -ℤ pos 1) to
 

@@ -9,11 +9,11 @@ use Rattle.calendar.specs.Meaning.{Row, meant}
 use Rattle.calendar.specs.Lists.{all, is}
 use Rattle.calendar.specs.Granules.{granule}
 use Rattle.cursors.specs.Cursor.{cursorAt}
-use Rattle.containment.specs.declared.Place.{Place}
+use Rattle.containment.specs.declared.CursorPair.{CursorPair}
 use Rattle.containment.specs.Places.{instant, at}
 
 -- the cursors and the labels of the place are those of its instant, which has room for a walk of a turn on either side
-pub record Stands (b a : Row) (p : Place) : Type 0 where
+pub record Overlaps (b a : Row) (p : CursorPair) : Type 0 where
   pub low : negℤ (pos (2 ^ 59)) ≤ℤ at b p
   pub high : at b p ≤ℤ pos (2 ^ 59)
   pub b-cursor : p .b ≡ cursorAt b (at b p)
@@ -22,11 +22,11 @@ pub record Stands (b a : Row) (p : Place) : Type 0 where
   pub a-label : meant a (at b p) ≡ some (p .i)
 
 -- the granule k of b lies in the granule i of a, as far as its instants from the place on go
-unfoldable pub insideFrom : Row → Row → Place → Bool
+unfoldable pub insideFrom : Row → Row → CursorPair → Bool
 unfolding granule meant instant
 insideFrom b a p = all (λ u. ltZ u (at b p) || is (p .i) (meant a u)) (granule b (p .k))
 
 -- and as far as its instants up to the place go
-unfoldable pub insideUpTo : Row → Row → Place → Bool
+unfoldable pub insideUpTo : Row → Row → CursorPair → Bool
 unfolding granule meant instant
 insideUpTo b a p = all (λ u. ltZ (at b p) u || is (p .i) (meant a u)) (granule b (p .k))

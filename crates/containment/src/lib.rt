@@ -9,13 +9,15 @@ ghost use Rattle.calendar.specs.Granules.{granule, inside};
 ghost use Rattle.calendar.specs.Questions.{given, holder};
 ghost use Rattle.cursors.specs.Found.{found, Sound, Labelled};
 ghost use Rattle.cursors.specs.Cursor.{cursorAt, Standing};
-ghost use Rattle.containment.specs.Sides.{Stands, insideFrom, insideUpTo};
+ghost use Rattle.containment.specs.Sides.{Overlaps, insideFrom, insideUpTo};
 ghost use Rattle.containment.specs.Places.{at, Beside, stepAt};
 use cursors::Cursor;
 use cursors::Found;
 
-// Where a walk is that sees whether the granule k of the row b lies in the granule i of the row a: at one instant, by its cursors.
-pub struct Place {
+pub mod seen;
+
+// The cursors of two rows at one instant, the place of a walk that sees whether the granule k of b lies in the granule i of a.
+pub struct CursorPair {
     pub b: Cursor,
     pub k: i64,
     pub a: Cursor,
@@ -53,7 +55,7 @@ fn step_at(
     a_cells: &[i32],
     a_period: i64,
     a_distance: i64,
-    p: Place,
+    p: CursorPair,
 ) -> Step
     requires { ⌜ Sound «b_period» «b_distance» (now «b_cells») ⌝ }
     requires { ⌜ Sound «a_period» «a_distance» (now «a_cells») ⌝ }
@@ -81,11 +83,11 @@ fn inside_forward(
     a_cells: &[i32],
     a_period: i64,
     a_distance: i64,
-    from: Place,
+    from: CursorPair,
 ) -> bool
     requires { ⌜ Sound «b_period» «b_distance» (now «b_cells») ⌝ }
     requires { ⌜ Sound «a_period» «a_distance» (now «a_cells») ⌝ }
-    requires { ⌜ Stands (given «b_period» «b_distance» (now «b_cells»)) (given «a_period» «a_distance» (now «a_cells»)) from ⌝ }
+    requires { ⌜ Overlaps (given «b_period» «b_distance» (now «b_cells»)) (given «a_period» «a_distance» (now «a_cells»)) from ⌝ }
     ensures { λ r. ⌜ r ≡ insideFrom (given «b_period» «b_distance» (now («b_cells» .entry))) (given «a_period» «a_distance» (now («a_cells» .entry))) from ⌝ }
 {
     let mut next = from;
@@ -117,11 +119,11 @@ fn inside_back(
     a_cells: &[i32],
     a_period: i64,
     a_distance: i64,
-    from: Place,
+    from: CursorPair,
 ) -> bool
     requires { ⌜ Sound «b_period» «b_distance» (now «b_cells») ⌝ }
     requires { ⌜ Sound «a_period» «a_distance» (now «a_cells») ⌝ }
-    requires { ⌜ Stands (given «b_period» «b_distance» (now «b_cells»)) (given «a_period» «a_distance» (now «a_cells»)) from ⌝ }
+    requires { ⌜ Overlaps (given «b_period» «b_distance» (now «b_cells»)) (given «a_period» «a_distance» (now «a_cells»)) from ⌝ }
     ensures { λ r. ⌜ r ≡ insideUpTo (given «b_period» «b_distance» (now («b_cells» .entry))) (given «a_period» «a_distance» (now («a_cells» .entry))) from ⌝ }
 {
     let mut previous = from;
@@ -153,11 +155,11 @@ pub fn inside_at(
     a_cells: &[i32],
     a_period: i64,
     a_distance: i64,
-    from: Place,
+    from: CursorPair,
 ) -> bool
     requires { ⌜ Sound «b_period» «b_distance» (now «b_cells») ⌝ }
     requires { ⌜ Sound «a_period» «a_distance» (now «a_cells») ⌝ }
-    requires { ⌜ Stands (given «b_period» «b_distance» (now «b_cells»)) (given «a_period» «a_distance» (now «a_cells»)) from ⌝ }
+    requires { ⌜ Overlaps (given «b_period» «b_distance» (now «b_cells»)) (given «a_period» «a_distance» (now «a_cells»)) from ⌝ }
     ensures { λ r. ⌜ r ≡ inside (given «b_period» «b_distance» (now («b_cells» .entry))) (from .k) (given «a_period» «a_distance» (now («a_cells» .entry))) (from .i) ⌝ }
 {
     inside_forward(
@@ -188,11 +190,11 @@ pub fn inside_from_first(
     a_cells: &[i32],
     a_period: i64,
     a_distance: i64,
-    from: Place,
+    from: CursorPair,
 ) -> bool
     requires { ⌜ Sound «b_period» «b_distance» (now «b_cells») ⌝ }
     requires { ⌜ Sound «a_period» «a_distance» (now «a_cells») ⌝ }
-    requires { ⌜ Stands (given «b_period» «b_distance» (now «b_cells»)) (given «a_period» «a_distance» (now «a_cells»)) from ⌝ }
+    requires { ⌜ Overlaps (given «b_period» «b_distance» (now «b_cells»)) (given «a_period» «a_distance» (now «a_cells»)) from ⌝ }
     requires { ⌜ at (given «b_period» «b_distance» (now «b_cells»)) from ≡ first (granule (given «b_period» «b_distance» (now «b_cells»)) (from .k)) ⌝ }
     ensures whole { λ r. ⌜ r ≡ inside (given «b_period» «b_distance» (now («b_cells» .entry))) (from .k) (given «a_period» «a_distance» (now («a_cells» .entry))) (from .i) ⌝ }
 {
@@ -227,7 +229,7 @@ pub fn inside(
     let a = cursors::cursor_at(a_cells, a_period, a_distance, t);
     let k = cursors::label_of(b_cells, b_period, b_distance, b);
     let i = cursors::label_of(a_cells, a_period, a_distance, a);
-    let from = Place { b, k, a, i };
+    let from = CursorPair { b, k, a, i };
     inside_at(
         b_cells,
         b_period,

@@ -10,7 +10,7 @@ use lib.IntN.{ℤ, pos, _+ℤ_, _-ℤ_, _*ℤ_}
 use lib.Signed.{_≤ℤ_, _<ℤ_}
 use lib.ListN.{length, length-append}
 use Rattle.integers.proofs.Linear.{ints, _∴_}
-use Rattle.integers.proofs.Order.{≤ℤ-antisym, le-or-lt, Cases, cases}
+use Rattle.integers.proofs.Order.{≤ℤ-antisym, le-or-lt, up-less, Cases, cases}
 use Rattle.integers.proofs.Order.Cases.{below, equal, above}
 use Rattle.calendar.specs.Meaning.{Row, meant}
 use Rattle.calendar.specs.Algebra.{Rising, Lists}
@@ -21,9 +21,10 @@ use Rattle.granules.proofs.Calendars.{label-moved}
 use Rattle.granules.proofs.Rows.{meant-repeats}
 use Rattle.cursors.specs.declared.Cursor.{Cursor}
 use Rattle.cursors.specs.Cursor.{cursorAt}
-use Rattle.parts.specs.Walk.{Begins, Greatest}
+use Rattle.containment.specs.First.{FirstInstant}
+use Rattle.parts.specs.Walk.{Greatest}
 use Rattle.parts.proofs.Shown.{Shows}
-use Rattle.parts.proofs.WalkGaps.{ahead, falls}
+use Rattle.parts.proofs.WalkGaps.{ahead}
 
 -- k is the label in g of an instant of the granule z of h up to u
 abbrev pub Seen : Row → Row → ℤ → ℤ → ℤ → Type 0
@@ -85,7 +86,7 @@ empty-of : (l : List ℤ) (j : ℤ) → 0 ≡ length l → List·Memᴰ j l → 
 empty-of [] j e m = List·Memᴰ·not-nil m
 empty-of (x ∷ l) j e m = omega arith
 
-module _ {h g : Row} (v : Valid h) (w : Valid g) {z t : ℤ} (b : Begins h z t) where
+module _ {h g : Row} (v : Valid h) (w : Valid g) {z t : ℤ} (b : FirstInstant h z t) where
   pub walk-start : {n : ℕ} {p : List ℤ} {u : ℤ} {a d : Cursor} {o : ℤ} → length p ≡ n → Shows p [] → a ≡ cursorAt h u → d ≡ cursorAt g u → u ≡ t -ℤ pos 1 → Greatest g u o
       → Walk h g z t n p u a d 0 o o
   walk-start l s ha ga e m = record {
@@ -111,7 +112,7 @@ module _ {h g : Row} (v : Valid h) (w : Valid g) {z t : ℤ} (b : Begins h z t) 
   module _ {n : ℕ} {p : List ℤ} {u u′ : ℤ} {a d a′ d′ : Cursor} {count : ℕ} {o latest : ℤ} (c : Walk h g z t n p u a d count o latest)
       (next : a′ ≡ cursorAt h u′) (beside : d′ ≡ cursorAt g u′) (step : u′ ≡ u +ℤ pos 1) where
     pub walk-less : ahead (h .period) t u′ < ahead (h .period) t u
-    walk-less = falls (t -ℤ u′ +ℤ pos (h .period)) (t -ℤ u +ℤ pos (h .period)) (step ∴ simp ints (omega arith)) (c .high ∴ simp ints (omega arith))
+    walk-less = up-less (t -ℤ u′ +ℤ pos (h .period)) (t -ℤ u +ℤ pos (h .period)) (step ∴ simp ints (omega arith)) (c .high ∴ simp ints (omega arith))
 
     -- a period on, the label is another
     within-turn : ((i : ℤ) → meant h u′ ≡ some i → i ≡ z) → u′ <ℤ (t +ℤ pos (h .period))

@@ -25,11 +25,12 @@ use Rattle.cursors.specs.Cursor.{cursorAt}
 use Rattle.parts.specs.declared.Part.the-variants.{Broken}
 use Rattle.parts.specs.declared.Walked.{Walked}
 use Rattle.parts.specs.declared.Walked.the-variants.{Parts, Incomplete}
-use Rattle.parts.specs.Walk.{Begins, Least, PartAt, EndAt, Walks}
+use Rattle.containment.specs.First.{FirstInstant}
+use Rattle.parts.specs.Walk.{Least, PartAt, EndAt, PartsOf}
 use Rattle.parts.proofs.Shown.{Shows}
 use Rattle.parts.proofs.Walk.{Walk, has-part}
 
-module _ {h g : Row} (v : Valid h) (w : Valid g) {z t : ℤ} (b : Begins h z t) where
+module _ {h g : Row} (v : Valid h) (w : Valid g) {z t : ℤ} (b : FirstInstant h z t) where
   -- an instant of the granule and one outside it have the same label in g
   apart : (x y k : ℤ) → meant h x ≡ some z → meant g x ≡ some k → (meant h y ≡ some z → ⊥) → meant g y ≡ some k → madeUp h g z ≡ false
   apart x y k e f out l = false-iff (madeUp-iff h g v w z) .1 (λ m. let s = m x e in out (s .2 y (l ∙ ap some (some-inj (sym f ∙ s .1)))))
@@ -93,6 +94,6 @@ module _ {h g : Row} (v : Valid h) (w : Valid g) {z t : ℤ} (b : Begins h z t) 
             })
             (within-lists g h w v z)
 
-      pub walk-ended : (x : Walked) → EndAt g u′ count latest x → Walks h g z p x
+      pub walk-ended : (x : Walked) → EndAt g u′ count latest x → PartsOf h g z p x
       walk-ended (Parts m) (q, (i, l, past)) = (made i l past, (q ∙ c .count-is ∙ ap length (parts i l past), subst (λ (k : List ℤ). Shows p k) (parts i l past) (c .shows)))
       walk-ended Incomplete l = goes-on l

@@ -5,11 +5,11 @@ use mathlib.Core.Logic.{⊎-elim}
 use mathlib.Core.Option.{none, some}
 use Prim.Native.Nat.{ℕ, _<_, _^_}
 use native.Mathlib.Omega.{arith}
-use lib.IntN.{ℤ, pos, negsuc, _+ℤ_, _-ℤ_}
+use lib.IntN.{ℤ, pos, _+ℤ_, _-ℤ_}
 use lib.Signed.{_≤ℤ_, _<ℤ_}
 use Rattle.integers.specs.Parts.{up}
 use Rattle.integers.proofs.Linear.{ints, _∴_}
-use Rattle.integers.proofs.Order.{le-or-lt, Cases, cases}
+use Rattle.integers.proofs.Order.{le-or-lt, up-less, Cases, cases}
 use Rattle.integers.proofs.Order.Cases.{below, equal, above}
 use Rattle.calendar.specs.Meaning.{Row, meant}
 use Rattle.granules.specs.Valid.{Valid}
@@ -20,7 +20,7 @@ use Rattle.cursors.specs.declared.Cursor.{Cursor}
 use Rattle.cursors.specs.Found.{Within}
 use Rattle.cursors.specs.Cursor.{cursorAt}
 use Rattle.containment.proofs.Places.{instant-is}
-use Rattle.parts.specs.Walk.{Placed, Greatest, Least}
+use Rattle.parts.specs.Walk.{Roomy, Greatest, Least}
 
 -- back from s: it stands at u, and no instant behind u up to s has a label
 pub record GapBack (r : Row) (s : ℤ) (c : Cursor) (u : ℤ) : Type 0 where
@@ -43,13 +43,8 @@ behind P s u = up (u -ℤ s +ℤ pos P)
 abbrev pub ahead : ℕ → ℤ → ℤ → ℕ
 ahead P s u = up (s -ℤ u +ℤ pos P)
 
-pub falls : (x y : ℤ) → x <ℤ y → pos 0 <ℤ y → up x < up y
-falls (pos a) (pos b) h k = omega (arith, simp ints at h)
-falls (negsuc a) (pos b) h k = omega (arith, simp ints at k)
-falls x (negsuc b) h k = absurd (k .lt)
-
 -- the cursor of an instant that has room
-pub placed : (r : Row) → Valid r → (c : Cursor) (u : ℤ) → c ≡ cursorAt r u → Within (2 ^ 59) u → Placed r c
+pub placed : (r : Row) → Valid r → (c : Cursor) (u : ℤ) → c ≡ cursorAt r u → Within (2 ^ 59) u → Roomy r c
 placed r v c u e n = let i = sym (instant-is r v c u e) in (subst (Within (2 ^ 59)) i n, e ∙ ap (cursorAt r) i)
 
 module _ (r : Row) (v : Valid r) (s : ℤ) where
@@ -106,7 +101,7 @@ module _ (r : Row) (v : Valid r) (s : ℤ) where
               none≢some (sym (gap-back (x .0) (h ∴ x .2 ∴ simp ints (omega arith)) (x .3 ∴ simp ints (omega arith))) ∙ x .4)
 
       pub back-less : behind (r .period) s u′ < behind (r .period) s u
-      back-less = falls (u′ -ℤ s +ℤ pos (r .period)) (u -ℤ s +ℤ pos (r .period)) (step ∴ simp ints (omega arith)) (b .low ∴ simp ints (omega arith))
+      back-less = up-less (u′ -ℤ s +ℤ pos (r .period)) (u -ℤ s +ℤ pos (r .period)) (step ∴ simp ints (omega arith)) (b .low ∴ simp ints (omega arith))
 
   module _ (c : Cursor) (u : ℤ) (b : GapOn r s c u) where
     pub on-label : (k : ℤ) → meant r u ≡ some k → Least r s k
@@ -140,4 +135,4 @@ module _ (r : Row) (v : Valid r) (s : ℤ) where
               none≢some (sym (gap-on (x .0) (x .2) (h ∴ x .3 ∴ simp ints (omega arith))) ∙ x .4)
 
       pub on-less : ahead (r .period) s u′ < ahead (r .period) s u
-      on-less = falls (s -ℤ u′ +ℤ pos (r .period)) (s -ℤ u +ℤ pos (r .period)) (step ∴ simp ints (omega arith)) (b .high ∴ simp ints (omega arith))
+      on-less = up-less (s -ℤ u′ +ℤ pos (r .period)) (s -ℤ u +ℤ pos (r .period)) (step ∴ simp ints (omega arith)) (b .high ∴ simp ints (omega arith))

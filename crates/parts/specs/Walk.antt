@@ -18,15 +18,9 @@ use Rattle.containment.specs.Places.{instant}
 use Rattle.parts.specs.declared.Part as Part
 use Rattle.parts.specs.declared.Walked as Walked
 
--- t is the first instant of the granule z, with room for a walk of a turn
-pub record Begins (h : Row) (z t : ℤ) : Type 0 where
-  pub near : Within (2 ^ 58) t
-  pub label : meant h t ≡ some z
-  pub least : (u : ℤ) → meant h u ≡ some z → t ≤ℤ u
-
 -- a cursor of the row whose instant has room for a walk of a turn on either side
-abbrev pub Placed : Row → Cursor → Type 0
-Placed r c = Within (2 ^ 59) (instant r c) × (c ≡ cursorAt r (instant r c))
+abbrev pub Roomy : Row → Cursor → Type 0
+Roomy r c = Within (2 ^ 59) (instant r c) × (c ≡ cursorAt r (instant r c))
 
 -- k is the greatest label up to u, which is that of the last instant with one
 pub record Greatest (r : Row) (u k : ℤ) : Type 0 where
@@ -56,8 +50,8 @@ abbrev pub EndAt : Row → ℤ → ℕ → ℤ → Walked.Walked → Type 0
 EndAt g u count k (Walked.the-variants.Parts n) = (n ≡ count) × ((j : ℤ) × Least g u j × (j ≡ k → ⊥))
 EndAt g u count k Walked.the-variants.Incomplete = Least g u k
 
--- the parts of the granule z: how many there are, and those that the list has room for, with zeros behind them
-abbrev pub Walks : Row → Row → ℤ → List ℤ → Walked.Walked → Type 0
-Walks h g z l (Walked.the-variants.Parts count) =
+-- the parts of the granule z: how many there are, and those that the list l has room for, with zeros behind them
+abbrev pub PartsOf : Row → Row → ℤ → List ℤ → Walked.Walked → Type 0
+PartsOf h g z l (Walked.the-variants.Parts count) =
     (madeUp h g z ≡ true) × ((count ≡ length (within g h z)) × ((i : ℕ) → i < length l → getD l i (pos 0) ≡ getD (within g h z) i (pos 0)))
-Walks h g z l Walked.the-variants.Incomplete = madeUp h g z ≡ false
+PartsOf h g z l Walked.the-variants.Incomplete = madeUp h g z ≡ false

@@ -6,7 +6,8 @@ ghost use lib.ListN.{length, replicate};
 ghost use Rattle.calendar.specs.Questions.{given};
 ghost use Rattle.cursors.specs.Found.{found, Sound};
 ghost use Rattle.containment.specs.Places.{instant};
-ghost use Rattle.parts.specs.Walk.{Begins, Placed, Greatest, PartAt, EndAt, Walks};
+ghost use Rattle.containment.specs.First.{FirstInstant};
+ghost use Rattle.parts.specs.Walk.{Roomy, Greatest, PartAt, EndAt, PartsOf};
 use cursors::Cursor;
 use cursors::Found;
 
@@ -29,7 +30,7 @@ pub enum Walked {
 // The label of the last instant up to the cursor's that has one: the greatest up to there.
 fn label_up_to(cells: &[i32], period: i64, distance: i64, from: Cursor) -> i64
     requires { ⌜ Sound period distance (now cells) ⌝ }
-    requires { ⌜ Placed (given period distance (now cells)) from ⌝ }
+    requires { ⌜ Roomy (given period distance (now cells)) from ⌝ }
     ensures { λ r. ⌜ Greatest (given period distance (now (cells .entry))) (instant (given period distance (now (cells .entry))) from) r ⌝ }
 {
     let mut c = from;
@@ -53,7 +54,7 @@ fn ended(
     from: Cursor,
 ) -> Walked
     requires { ⌜ Sound period distance (now cells) ⌝ }
-    requires { ⌜ Placed (given period distance (now cells)) from ⌝ }
+    requires { ⌜ Roomy (given period distance (now cells)) from ⌝ }
     ensures { λ r. ⌜ EndAt (given period distance (now (cells .entry))) (instant (given period distance (now (cells .entry))) from) count latest r ⌝ }
 {
     let mut c = from;
@@ -114,9 +115,9 @@ pub fn parts_of(
 ) -> Walked
     requires { ⌜ Sound «h_period» «h_distance» (now «h_cells») ⌝ }
     requires { ⌜ Sound «g_period» «g_distance» (now «g_cells») ⌝ }
-    requires { ⌜ Begins (given «h_period» «h_distance» (now «h_cells»)) z first ⌝ }
+    requires { ⌜ FirstInstant (given «h_period» «h_distance» (now «h_cells»)) z first ⌝ }
     requires { ⌜ now parts ≡ replicate (length (now parts)) (pos 0) ⌝ }
-    ensures { λ r. ⌜ Walks (given «h_period» «h_distance» (now («h_cells» .entry))) (given «g_period» «g_distance» (now («g_cells» .entry))) z (now (parts .exit)) r ⌝ }
+    ensures { λ r. ⌜ PartsOf (given «h_period» «h_distance» (now («h_cells» .entry))) (given «g_period» «g_distance» (now («g_cells» .entry))) z (now (parts .exit)) r ⌝ }
 {
     let before = first - 1;
     let mut h = cursors::cursor_at(h_cells, h_period, h_distance, before);

@@ -6,11 +6,11 @@ use mathlib.Core.Option.{some}
 use mathlib.Core.Bool.{true, false}
 use Prim.Native.Nat.{_<_, suc}
 use native.Mathlib.Omega.{arith}
-use lib.IntN.{ℤ, pos, negsuc, _+ℤ_, _-ℤ_, _*ℤ_}
+use lib.IntN.{ℤ, pos, _+ℤ_, _-ℤ_, _*ℤ_}
 use lib.Signed.{_≤ℤ_, _<ℤ_}
 use Rattle.integers.specs.Parts.{up}
 use Rattle.integers.proofs.Linear.{ints, _∴_}
-use Rattle.integers.proofs.Order.{≤ℤ-antisym, le-or-lt, Cases, cases}
+use Rattle.integers.proofs.Order.{≤ℤ-antisym, le-or-lt, up-less, Cases, cases}
 use Rattle.integers.proofs.Order.Cases.{below, equal, above}
 use Rattle.calendar.specs.Meaning.{Row, meant}
 use Rattle.calendar.specs.Operation.Selection.{select-up}
@@ -44,11 +44,6 @@ pub record Passed (a b : Row) (j t u : ℤ) (c d : Cursor) (tested : Found) : Ty
   pub high : u ≤ℤ (t +ℤ pos (a .period))
   pub seen : (x k : ℤ) → x <ℤ u → meant a x ≡ some j → meant b x ≡ some k → Fails a b j k
   pub last : (k : ℤ) → found tested ≡ some k → Fails a b j k
-
-falls : (x y : ℤ) → x <ℤ y → pos 0 <ℤ y → up x < up y
-falls (pos m) (pos n) h k = omega (arith, simp ints at h)
-falls (negsuc m) (pos n) h k = omega (arith, simp ints at k)
-falls x (negsuc n) h k = absurd (k .lt)
 
 -- a granule of b that meets the granule lies in it
 pub holds : (a b : Row) → Valid a → Valid b → (j u k : ℤ) → meant a u ≡ some j → meant b u ≡ some k → inside b k a j ≡ true → selects select-up a b j ≡ true
@@ -88,7 +83,7 @@ module _ (a b : Row) (v : Valid a) (w : Valid b) (j t : ℤ) (own : meant a t �
 
     module _ (u′ : ℤ) (c′ d′ : Cursor) (next : c′ ≡ cursorAt a u′) (beside : d′ ≡ cursorAt b u′) (step : u′ ≡ u +ℤ pos 1) where
       pub passed-less : ahead (suc (a .period)) t u′ < ahead (suc (a .period)) t u
-      passed-less = falls (t -ℤ u′ +ℤ pos (suc (a .period))) (t -ℤ u +ℤ pos (suc (a .period))) (step ∴ simp ints (omega arith)) (p .high ∴ simp ints (omega arith))
+      passed-less = up-less (t -ℤ u′ +ℤ pos (suc (a .period))) (t -ℤ u +ℤ pos (suc (a .period))) (step ∴ simp ints (omega arith)) (p .high ∴ simp ints (omega arith))
 
       -- from an instant of no other granule of a, with what is tested last then
       passed-on : (tested′ : Found) → ((i : ℤ) → meant a u ≡ some i → i ≡ j) → ((k : ℤ) → meant a u ≡ some j → meant b u ≡ some k → Fails a b j k)

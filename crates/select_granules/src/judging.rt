@@ -14,60 +14,14 @@ ghost use Rattle.candidates.specs.Tallies.{candidates};
 ghost use Rattle.kinds.specs.Limits.{PickLimits};
 ghost use Rattle.select_granules.specs.Memos.{Picks, Recalls};
 ghost use Rattle.select_granules.specs.Deciding.{takes, selectionBy, Decides};
-ghost use Rattle.select_granules.specs.Meeting.{SeenAt, StartsAt};
+ghost use Rattle.select_granules.specs.Meeting.{StartsAt};
 use super::Decision;
 use super::Picked;
 use candidates::ends::Instant;
-use containment::Place;
+use containment::CursorPair;
+use containment::seen::Seen;
 use cursors::Cursor;
-use cursors::Found;
 use kinds::Pick;
-
-// What an instant says of a's granule j.
-enum Seen {
-    // It has no label in a.
-    Off,
-    // It is in the granule, and has no label in b.
-    Bare,
-    // It is in another granule of a.
-    Over,
-    // It is in the granule, and in b's granule of this label.
-    Of(i64),
-}
-
-// What the instant t says, with its cursors.
-fn seen_at(
-    j: i64,
-    t: i64,
-    a: Cursor,
-    b: Cursor,
-    a_cells: &[i32],
-    a_period: i64,
-    a_distance: i64,
-    b_cells: &[i32],
-    b_period: i64,
-    b_distance: i64,
-) -> Seen
-    requires { ⌜ Sound «a_period» «a_distance» (now «a_cells») ⌝ }
-    requires { ⌜ Sound «b_period» «b_distance» (now «b_cells») ⌝ }
-    requires { ⌜ Within (2 ^ 50) t ⌝ }
-    requires { ⌜ a ≡ cursorAt (given «a_period» «a_distance» (now «a_cells»)) t ⌝ }
-    requires { ⌜ b ≡ cursorAt (given «b_period» «b_distance» (now «b_cells»)) t ⌝ }
-    ensures { λ r. ⌜ SeenAt (given «a_period» «a_distance» (now («a_cells» .entry))) (given «b_period» «b_distance» (now («b_cells» .entry))) j t r ⌝ }
-{
-    let own = cursors::cursor_label(a_cells, a_period, a_distance, a);
-    let Found::At(k) = own else {
-        return Seen::Off;
-    };
-    if k != j {
-        return Seen::Over;
-    }
-    let label = cursors::cursor_label(b_cells, b_period, b_distance, b);
-    let Found::At(i) = label else {
-        return Seen::Bare;
-    };
-    Seen::Of(i)
-}
 
 // Whether a's granule j, at t, is taken for b's granule i there, by what Pick takes for it. The first and the last that are taken are in question;
 // another between them may not lie in b's granule, where it must.
@@ -109,7 +63,7 @@ fn taken_at(
     if j == m.high {
         return true;
     }
-    let place = Place {
+    let place = CursorPair {
         b: a,
         k: j,
         a: b,
@@ -223,7 +177,7 @@ pub fn judged(
     let mut other = start.other;
     let mut picked = m;
     loop {
-        let seen = seen_at(
+        let seen = containment::seen::seen_at(
             j,
             at,
             own,

@@ -10,7 +10,8 @@ ghost use Rattle.calendar.specs.Algebra.{pickStart};
 ghost use Rattle.calendar.specs.Questions.{given};
 ghost use Rattle.cursors.specs.Found.{Sound, Within};
 ghost use Rattle.cursors.specs.Cursor.{cursorAt};
-ghost use Rattle.candidates.specs.Tallies.{candidates, Begins};
+ghost use Rattle.containment.specs.First.{FirstInstant};
+ghost use Rattle.candidates.specs.Tallies.{candidates};
 ghost use Rattle.kinds.specs.Limits.{PickLimits};
 ghost use Rattle.select_granules.specs.Memos.{Picks, pickedOf};
 use super::Picked;
@@ -47,7 +48,7 @@ fn pick_start(
     requires { ⌜ Sound «a_period» «a_distance» (now «a_cells») ⌝ }
     requires { ⌜ Sound «b_period» «b_distance» (now «b_cells») ⌝ }
     requires { ⌜ PickLimits pick ⌝ }
-    requires { ⌜ Begins (given «b_period» «b_distance» (now «b_cells»)) i (first .at) ⌝ }
+    requires { ⌜ FirstInstant (given «b_period» «b_distance» (now «b_cells»)) i (first .at) ⌝ }
     requires { ⌜ first .own ≡ cursorAt (given «b_period» «b_distance» (now «b_cells»)) (first .at) ⌝ }
     requires { ⌜ first .other ≡ cursorAt (given «a_period» «a_distance» (now «a_cells»)) (first .at) ⌝ }
     ensures at { λ r. ⌜ r ≡ pickStart (pick .x) (length (candidates whole (given «a_period» «a_distance» (now («a_cells» .entry))) (given «b_period» «b_distance» (now («b_cells» .entry))) i)) ⌝ }

@@ -13,7 +13,8 @@ ghost use Rattle.calendar.specs.Questions.{given};
 ghost use Rattle.cursors.specs.Found.{found, Sound, Within};
 ghost use Rattle.cursors.specs.Cursor.{cursorAt};
 ghost use Rattle.select_granules.specs.Holding.{MetAt};
-use containment::Place;
+use containment::CursorPair;
+use containment::seen::Seen;
 use cursors::Cursor;
 use cursors::Found;
 
@@ -60,31 +61,39 @@ fn met_at(
     requires { ⌜ b ≡ cursorAt (given «b_period» «b_distance» (now «b_cells»)) t ⌝ }
     ensures { λ r. ⌜ MetAt (given «a_period» «a_distance» (now («a_cells» .entry))) (given «b_period» «b_distance» (now («b_cells» .entry))) j t tested r ⌝ }
 {
-    let own = cursors::cursor_label(a_cells, a_period, a_distance, a);
-    let Found::At(i) = own else {
-        return Met::Nothing;
-    };
-    if i != j {
-        return Met::End;
-    }
-    let label = cursors::cursor_label(b_cells, b_period, b_distance, b);
-    let Found::At(k) = label else {
-        return Met::Nothing;
-    };
-    if is_found(tested, k) {
-        return Met::Nothing;
-    }
-    let place = Place { b, k, a, i: j };
-    let whole = containment::inside_at(
-        b_cells,
-        b_period,
-        b_distance,
+    let seen = containment::seen::seen_at(
+        j,
+        t,
+        a,
+        b,
         a_cells,
         a_period,
         a_distance,
-        place,
+        b_cells,
+        b_period,
+        b_distance,
     );
-    if whole { Met::Inside } else { Met::Outside(k) }
+    match seen {
+        Seen::Off => return Met::Nothing,
+        Seen::Bare => return Met::Nothing,
+        Seen::Over => return Met::End,
+        Seen::Of(k) => {
+            if is_found(tested, k) {
+                return Met::Nothing;
+            }
+            let place = CursorPair { b, k, a, i: j };
+            let whole = containment::inside_at(
+                b_cells,
+                b_period,
+                b_distance,
+                a_cells,
+                a_period,
+                a_distance,
+                place,
+            );
+            if whole { Met::Inside } else { Met::Outside(k) }
+        }
+    }
 }
 
 // Whether a's granule j, whose first instant is `first`, holds a whole granule of b.

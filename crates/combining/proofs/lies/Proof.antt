@@ -17,10 +17,10 @@ use Rattle.calendar.specs.Questions.{given}
 use Rattle.granules.specs.Valid.{Valid}
 use Rattle.cursors.specs.Found.{found}
 use Rattle.cursors.proofs.Numbers.{valid}
-use Rattle.containment.specs.declared.Place.{Place}
+use Rattle.containment.specs.declared.CursorPair.{CursorPair}
 use Rattle.containment.specs.Places.{at}
-use Rattle.containment.specs.Sides.{Stands}
-use Rattle.containment.proofs.Places.{instant-is, stands}
+use Rattle.containment.specs.Sides.{Overlaps}
+use Rattle.containment.proofs.Places.{instant-is, overlaps}
 use Rattle.combining.specs.Lying.{liesIn, liesAt}
 use Rattle.combining.proofs.lies.Statement.{statement}
 use Rattle.combining.proofs.lies.Tie as tie
@@ -79,14 +79,14 @@ label-fits c = sfits-of (c .known-told .given .0 .1)
 label-some : (c : Shown) → meant (a-row (start c)) (start c .args .t) ≡ some (label c)
 label-some c = label-is (c .before .before .before) ∙ ap found (c .before .outer .given .1)
 
-abbrev place : Shown → Place
+abbrev place : Shown → CursorPair
 place c = let s = start c in record { b = s .args .b; k = s .args .k; a = s .args .a; i = label c }
 
-placed : (c : Shown) → Stands (b-row (start c)) (a-row (start c)) (place c)
+placed : (c : Shown) → Overlaps (b-row (start c)) (a-row (start c)) (place c)
 placed c =
     let s = start c in
     let h = s .pre .1 .1 in
-    stands (b-row s) (a-row s) (b-valid s) (place c) (s .args .t) (h .0 .0) (h .0 .1) (h .1 .1 .1 .0) (h .1 .0) (h .1 .1 .0) (label-some c)
+    overlaps (b-row s) (a-row s) (b-valid s) (place c) (s .args .t) (h .0 .0) (h .0 .1) (h .1 .1 .1 .0) (h .1 .0) (h .1 .1 .0) (label-some c)
 
 is-first : (c : Shown) → let s = start c in s .args .fresh ≡ true → at (b-row s) (place c) ≡ first (granule (b-row s) (s .args .k))
 is-first c e = let s = start c in let h = s .pre .1 .1 .1 .1 .1 in instant-is (b-row s) (b-valid s) (s .args .b) (s .args .t) (h .0) ∙ h .1 e

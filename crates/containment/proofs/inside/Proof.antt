@@ -17,9 +17,9 @@ use Rattle.granules.proofs.Tests.{some-inj}
 use Rattle.cursors.specs.Found.{Near}
 use Rattle.cursors.specs.Cursor.{cursorAt}
 use Rattle.cursors.proofs.Numbers.{valid}
-use Rattle.containment.specs.declared.Place.{Place}
-use Rattle.containment.specs.Sides.{Stands}
-use Rattle.containment.proofs.Places.{stands}
+use Rattle.containment.specs.declared.CursorPair.{CursorPair}
+use Rattle.containment.specs.Sides.{Overlaps}
+use Rattle.containment.proofs.Places.{overlaps}
 use Rattle.containment.proofs.inside.Statement.{statement}
 use Rattle.containment.proofs.inside.Tie as tie
 
@@ -83,7 +83,7 @@ label-of-requires-2 c κs =
 abbrev begun : tie.After-label-of2 → tie.Start
 begun c = c .before .before .before .before
 
-abbrev place : tie.After-label-of2 → Place
+abbrev place : tie.After-label-of2 → CursorPair
 place c = let d = c .before .before in record { b = d .before .cursor-at .result; k = c .before .label-of .result; a = d .cursor-at2 .result; i = c .label-of2 .result }
 
 b-label : (c : tie.After-label-of2) → meant (b-row (begun c)) (begun c .args .t) ≡ some (place c .k)
@@ -109,12 +109,12 @@ i-fits c = sfits-of (c .label-of2 .ok)
 rules : (s : tie.Start) → Valid (b-row s)
 rules s = valid (s .args .b-period) (s .args .b-distance) (s .args .b-cells .now) (s .pre .0)
 
-placed : (c : tie.After-label-of2) → Stands (b-row (begun c)) (a-row (begun c)) (place c)
+placed : (c : tie.After-label-of2) → Overlaps (b-row (begun c)) (a-row (begun c)) (place c)
 placed c =
     let s = begun c in
     let l = s .pre .1 .1 .0 in
     let d = c .before .before in
-    stands (b-row s) (a-row s) (rules s) (place c) (s .args .t) (l .1 .0) (l .1 .1) (b-cursor d) (b-label c) (a-cursor d) (a-label c)
+    overlaps (b-row s) (a-row s) (rules s) (place c) (s .args .t) (l .1 .0) (l .1 .1) (b-cursor d) (b-label c) (a-cursor d) (a-label c)
 
 inside-at-requires : tie.Need-inside-at-requires
 inside-at-requires c κs =

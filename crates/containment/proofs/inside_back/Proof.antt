@@ -15,9 +15,9 @@ use Rattle.granules.specs.Valid.{Valid}
 use Rattle.cursors.specs.Found.{Sound, Near}
 use Rattle.cursors.proofs.Numbers.{numbers, valid}
 use Rattle.granule_ends.proofs.Walks.{left}
-use Rattle.containment.specs.declared.Place.{Place}
+use Rattle.containment.specs.declared.CursorPair.{CursorPair}
 use Rattle.containment.specs.Places.{at, stepAt}
-use Rattle.containment.specs.Sides.{Stands}
+use Rattle.containment.specs.Sides.{Overlaps}
 use Rattle.containment.proofs.Places.{Moved, moved-beside}
 use Rattle.containment.proofs.Walks.{Behind, behind-start, behind-on, behind-done, behind-out, behind-less}
 use Rattle.containment.proofs.inside_back.Statement.{statement}
@@ -54,8 +54,8 @@ a-sound s =
     let n = s .fits .a-distance in
     simp plain (s .pre .1 .0)
 
-stands : (s : Start) → Stands (b-row s) (a-row s) (s .args .from)
-stands s =
+overlaps : (s : Start) → Overlaps (b-row s) (a-row s) (s .args .from)
+overlaps s =
     let p = s .fits .b-period in
     let n = s .fits .b-distance in
     let q = s .fits .a-period in
@@ -66,14 +66,14 @@ rules : (s : Start) → Valid (b-row s)
 rules s = valid (toZ w64 (ofZ w64 (s .args .b-period))) (toZ w64 (ofZ w64 (s .args .b-distance))) (s .args .b-cells .now) (b-sound s)
 
 loop-holds : tie.Need-loop-holds Inv-loop μ-loop
-loop-holds s = behind-start (b-row s) (a-row s) (rules s) (s .args .from) (stands s)
+loop-holds s = behind-start (b-row s) (a-row s) (rules s) (s .args .from) (overlaps s)
 
 -- where the walk is
 near : (c : tie.At-loop Inv-loop μ-loop) → let u = at (b-row (c .before)) (c .loop .previous) in Near u × Near (u -ℤ pos 1)
 near c =
     let s = c .before in
     let n = numbers (toZ w64 (ofZ w64 (s .args .b-period))) (toZ w64 (ofZ w64 (s .args .b-distance))) (s .args .b-cells .now) (b-sound s) in
-    stands s .low ∴ stands s .high ∴ n .high ∴ c .loop .inv .walk .low ∴ c .loop .inv .walk .high ∴ simp ints (omega arith)
+    overlaps s .low ∴ overlaps s .high ∴ n .high ∴ c .loop .inv .walk .low ∴ c .loop .inv .walk .high ∴ simp ints (omega arith)
 
 cursor-back-requires : tie.Need-cursor-back-requires Inv-loop μ-loop
 cursor-back-requires c κs = (b-sound (c .before), (at (b-row (c .before)) (c .loop .previous), near c .0, c .loop .inv .walk .cursor))
@@ -82,7 +82,7 @@ cursor-back-requires-2 : tie.Need-cursor-back-requires-2 Inv-loop μ-loop
 cursor-back-requires-2 c κs = let l = c .before in (a-sound (l .before), (at (b-row (l .before)) (l .loop .previous), near l .0, l .loop .inv .beside))
 
 -- where it goes
-abbrev there : tie.After-cursor-back2 Inv-loop μ-loop → Place
+abbrev there : tie.After-cursor-back2 Inv-loop μ-loop → CursorPair
 there c = let p = c .before .before .loop .previous in record { b = c .before .cursor-back .result; k = p .k; a = c .cursor-back2 .result; i = p .i }
 
 moved : (c : tie.After-cursor-back2 Inv-loop μ-loop) → let l = c .before .before in Moved (b-row (l .before)) (a-row (l .before)) (l .loop .previous) (there c) (at (b-row (l .before)) (l .loop .previous) -ℤ pos 1)

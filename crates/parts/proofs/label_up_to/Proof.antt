@@ -18,7 +18,7 @@ use Rattle.cursors.specs.Cursor.{cursorAt}
 use Rattle.cursors.proofs.Numbers.{numbers, valid}
 use Rattle.containment.specs.Places.{instant}
 use Rattle.containment.proofs.Places.{instant-is}
-use Rattle.parts.specs.Walk.{Placed}
+use Rattle.parts.specs.Walk.{Roomy}
 use Rattle.parts.proofs.WalkGaps.{GapBack, behind, back-start, back-label, back-step, back-less}
 use Rattle.parts.proofs.label_up_to.Statement.{statement}
 use Rattle.parts.proofs.label_up_to.Tie as tie
@@ -52,7 +52,7 @@ sound s =
     let d = s .fits .distance in
     simp plain (s .pre .0)
 
-placed : (s : Start) → Placed (row s) (s .args .from)
+placed : (s : Start) → Roomy (row s) (s .args .from)
 placed s =
     let p = s .fits .period in
     let d = s .fits .distance in

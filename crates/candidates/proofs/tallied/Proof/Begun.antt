@@ -13,7 +13,7 @@ use Rattle.cursors.specs.Found.{Sound}
 use Rattle.cursors.specs.Cursor.{cursorAt}
 use Rattle.cursors.proofs.Numbers.{valid}
 use Rattle.granule_ends.proofs.Walks.{ahead}
-use Rattle.candidates.specs.Tallies.{Begins}
+use Rattle.containment.specs.First.{FirstInstant}
 use Rattle.candidates.proofs.Candidates.{Walk, walk-start}
 use Rattle.candidates.proofs.tallied.Tie as tie
 
@@ -66,7 +66,7 @@ a-rules s = valid (toZ w64 (ofZ w64 (s .args .a-period))) (toZ w64 (ofZ w64 (s .
 pub b-rules : (s : Start) → Valid (b-row s)
 b-rules s = valid (toZ w64 (ofZ w64 (s .args .b-period))) (toZ w64 (ofZ w64 (s .args .b-distance))) (s .args .b-cells .now) (b-sound s)
 
-pub begins : (s : Start) → Begins (b-row s) (I s) (T s)
+pub begins : (s : Start) → FirstInstant (b-row s) (I s) (T s)
 begins s =
     let p = s .fits .b-period in
     let n = s .fits .b-distance in

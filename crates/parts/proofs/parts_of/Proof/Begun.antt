@@ -23,7 +23,8 @@ use Rattle.cursors.proofs.Numbers.{valid}
 use Rattle.containment.specs.Places.{instant}
 use Rattle.containment.proofs.Places.{instant-is}
 use Rattle.parts.specs.declared.Walked.{Walked}
-use Rattle.parts.specs.Walk.{Begins, Greatest, Walks}
+use Rattle.containment.specs.First.{FirstInstant}
+use Rattle.parts.specs.Walk.{Greatest, PartsOf}
 use Rattle.parts.proofs.Shown.{shows-nothing}
 use Rattle.parts.proofs.WalkGaps.{ahead, placed}
 use Rattle.parts.proofs.Walk.{Walk, walk-start}
@@ -75,7 +76,7 @@ h-rules s = valid (toZ w64 (ofZ w64 (s .args .h-period))) (toZ w64 (ofZ w64 (s .
 pub g-rules : (s : Start) → Valid (g-row s)
 g-rules s = valid (toZ w64 (ofZ w64 (s .args .g-period))) (toZ w64 (ofZ w64 (s .args .g-distance))) (s .args .g-cells .now) (g-sound s)
 
-pub begins : (s : Start) → Begins (h-row s) (Z s) (T s)
+pub begins : (s : Start) → FirstInstant (h-row s) (Z s) (T s)
 begins s =
     let p = s .fits .h-period in
     let n = s .fits .h-distance in
@@ -84,8 +85,8 @@ begins s =
     simp plain (s .pre .1 .1 .0)
 
 -- what is found of these is found of those that are handed in
-pub plainly : (s : Start) (p : List ℤ) (x : Walked) → Walks (h-row s) (g-row s) (Z s) p x
-    → Walks (given (s .args .h-period) (s .args .h-distance) (s .args .h-cells .now)) (given (s .args .g-period) (s .args .g-distance) (s .args .g-cells .now)) (s .args .z) p x
+pub plainly : (s : Start) (p : List ℤ) (x : Walked) → PartsOf (h-row s) (g-row s) (Z s) p x
+    → PartsOf (given (s .args .h-period) (s .args .h-distance) (s .args .h-cells .now)) (given (s .args .g-period) (s .args .g-distance) (s .args .g-cells .now)) (s .args .z) p x
 plainly s p x y =
     let f = s .fits .h-period in
     let d = s .fits .h-distance in

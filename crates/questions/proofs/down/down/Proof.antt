@@ -13,7 +13,7 @@ use mir.Val.{SFits}
 use Rattle.integers.proofs.Machine.{plain}
 use Rattle.calendar.specs.Granules.{within}
 use Rattle.parts.specs.declared.Walked.the-variants.{Parts}
-use Rattle.parts.specs.Walk.{Walks}
+use Rattle.parts.specs.Walk.{PartsOf}
 use Rattle.questions.proofs.Cleared.{zeros-self}
 use Rattle.questions.proofs.Checks.{down-incomplete, down-short, down-answer, refused-parts, answered-parts}
 use Rattle.questions.proofs.down.down.Proof.Passed.{h-row, g-row, room, cleared, returns, returns-2, returns-3, clearing, begun, h-is, g-is, instant-of-requires, returns-4}
@@ -95,7 +95,7 @@ at-checks c = c .before .before .before
 abbrev at-start : tie.After-parts-of → tie.Start
 at-start c = begun (checks (at-checks c))
 
-walks : (c : tie.After-parts-of) → let s = at-start c in Walks (h-row s) (g-row s) (s .args .z) (c .parts-of .last .1 .1 .0) (c .parts-of .result)
+walks : (c : tie.After-parts-of) → let s = at-start c in PartsOf (h-row s) (g-row s) (s .args .z) (c .parts-of .last .1 .1 .0) (c .parts-of .result)
 walks c =
     let s = at-start c in
     let p = s .fits .h-period in
@@ -109,11 +109,11 @@ as-long : (c : tie.After-parts-of) → length (c .parts-of .last .1 .1 .0) ≡ r
 as-long c = c .parts-of .kept .1 .1 .0 ∙ clearing (checks (at-checks c)) .clear .kept .0
 
 walks-parts : (c : tie.After-known-told2) → let w = c .before .before .before .before in
-    Walks (h-row (at-start w)) (g-row (at-start w)) (at-start w .args .z) (w .parts-of .last .1 .1 .0) (Parts (c .before .walked .given .0 .0))
+    PartsOf (h-row (at-start w)) (g-row (at-start w)) (at-start w .args .z) (w .parts-of .last .1 .1 .0) (Parts (c .before .walked .given .0 .0))
 walks-parts c =
     let w = c .before .before .before .before in
     let s = at-start w in
-    subst (Walks (h-row s) (g-row s) (s .args .z) (w .parts-of .last .1 .1 .0)) (c .before .walked .given .1) (walks w)
+    subst (PartsOf (h-row s) (g-row s) (s .args .z) (w .parts-of .last .1 .1 .0)) (c .before .walked .given .1) (walks w)
 
 -- ---- 17
 
@@ -136,7 +136,7 @@ returns-7 c =
     let o = k .before .before in
     let w = o .before .before .before in
     let s = at-start w in
-    let x = subst (Walks (h-row s) (g-row s) (s .args .z) (w .parts-of .last .1 .1 .0)) (o .enum-told2 .given .1) (walks w) in
+    let x = subst (PartsOf (h-row s) (g-row s) (s .args .z) (w .parts-of .last .1 .1 .0)) (o .enum-told2 .given .1) (walks w) in
     refused-parts (room s) 16 _ _ (down-incomplete (h-row s) (g-row s) (s .args .z) (room s) (checked (at-checks w)) x)
     (k .clear3 .ensures ∙ ap (λ (m : ℕ). replicate m (pos 0)) (as-long w))
 

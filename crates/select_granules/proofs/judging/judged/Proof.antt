@@ -1,6 +1,6 @@
 -- `select_granules::judging::judged` meets its contract: it is a walk over the granule.
 --     Begun     before the loop: its invariant, and that it holds there
---     Stands    where the walk is, what an instant says, and the ends without a label in b
+--     Instant   where the walk is, what an instant says, and the ends without a label in b
 --     Met       a label in b: what is taken for it, and the ends there
 -- Assumes nothing.
 use mathlib.Core.Path.{_≡_, sym, _∙_, ap, subst}
@@ -16,12 +16,12 @@ use Rattle.select_granules.specs.declared.Picked.{Picked}
 use Rattle.select_granules.specs.Memos.{Recalls}
 use Rattle.select_granules.proofs.Meetings.{Goes, walk-on, walk-less, goes-off, goes-bare, goes-of}
 use Rattle.select_granules.proofs.judging.judged.Proof.Begun.{Inv-loop, μ-loop, J, a-row, b-row, start-of-requires, a-sound, b-sound, a-rules, b-rules, F, begins, loop-holds}
-use Rattle.select_granules.proofs.judging.judged.Proof.Stands.{first-at, begun, here, near, seen-at-requires, Says, says, enum-told, enum-told-2, decide-requires, returns, enum-told-3, decide-requires-2, returns-2}
+use Rattle.select_granules.proofs.judging.judged.Proof.Instant.{first-at, begun, here, near, seen-at-requires, Says, says, enum-told, enum-told-2, decide-requires, returns, enum-told-3, decide-requires-2, returns-2}
 use Rattle.select_granules.proofs.judging.judged.Proof.Met.{enum-known-seen, knows-requires, at, label, labels, picked-at-requires, taken-at-requires, recalls-it, decide-requires-3, returns-3, precedes-requires, decide-requires-4, returns-4}
 use Rattle.select_granules.proofs.judging.judged.Statement.{statement}
 use Rattle.select_granules.proofs.judging.judged.Tie as tie
 mod Begun
-mod Stands
+mod Instant
 mod Met
 
 -- ---- the walk goes on

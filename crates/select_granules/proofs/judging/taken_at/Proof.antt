@@ -17,9 +17,9 @@ use Rattle.calendar.specs.Lists.{any, equal}
 use Rattle.calendar.specs.Questions.{given}
 use Rattle.granules.specs.Valid.{Valid}
 use Rattle.cursors.proofs.Numbers.{valid}
-use Rattle.containment.specs.declared.Place.{Place}
-use Rattle.containment.specs.Sides.{Stands}
-use Rattle.containment.proofs.Places.{stands}
+use Rattle.containment.specs.declared.CursorPair.{CursorPair}
+use Rattle.containment.specs.Sides.{Overlaps}
+use Rattle.containment.proofs.Places.{overlaps}
 use Rattle.candidates.specs.Tallies.{candidates}
 use Rattle.select_granules.specs.Memos.{taken, Picks}
 use Rattle.select_granules.specs.Deciding.{takes}
@@ -105,15 +105,15 @@ returns-4 c =
 abbrev begun : tie.Else4 → tie.Else1
 begun c = c .before .before .before .before .before .before .before
 
-abbrev place : tie.Start → Place
+abbrev place : tie.Start → CursorPair
 place s = record { b = s .args .a; k = s .args .j; a = s .args .b; i = s .args .i }
 
-placed : (s : tie.Start) → Stands (a-row s) (b-row s) (place s)
+placed : (s : tie.Start) → Overlaps (a-row s) (b-row s) (place s)
 placed s =
     let l = s .pre .1 .1 in
     let lo : negℤ (pos (2 ^ 59)) ≤ℤ s .args .t = l .0 .0 ∴ simp ints (omega arith) in
     let hi : s .args .t ≤ℤ pos (2 ^ 59) = l .0 .1 ∴ simp ints (omega arith) in
-    stands (a-row s) (b-row s) (a-rules s) (place s) (s .args .t) lo hi (l .1 .1 .1 .0) (l .1 .0) (l .1 .1 .1 .1 .0) (l .1 .1 .0)
+    overlaps (a-row s) (b-row s) (a-rules s) (place s) (s .args .t) lo hi (l .1 .1 .1 .0) (l .1 .0) (l .1 .1 .1 .1 .0) (l .1 .1 .0)
 
 inside-at-requires : tie.Need-inside-at-requires
 inside-at-requires c κs =

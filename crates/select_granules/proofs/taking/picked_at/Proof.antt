@@ -19,7 +19,8 @@ use Rattle.granules.proofs.Questions.{first-at-most}
 use Rattle.cursors.specs.Found.{Within}
 use Rattle.cursors.proofs.Numbers.{valid}
 use Rattle.cursors.proofs.Bounds.{first-bounds}
-use Rattle.candidates.specs.Tallies.{candidates, Begins, tallyOf}
+use Rattle.containment.specs.First.{FirstInstant}
+use Rattle.candidates.specs.Tallies.{candidates, tallyOf}
 use Rattle.candidates.proofs.Tallying.{tally-fields}
 use Rattle.candidates.proofs.Candidates.{candidates-lists}
 use Rattle.select_granules.specs.declared.Picked.{Picked}
@@ -60,7 +61,7 @@ first-of-requires s κs =
 first-fits : (c : tie.After-first-of) → SFits w64 (c .first-of .result .at)
 first-fits c = let l = c .first-of .ensures .1 .1 .1 in l .0 ∴ l .1 ∴ simp ints (omega arith)
 
-begins : (c : tie.After-first-of) → let s = c .before in Begins (b-row s) (s .args .i) (c .first-of .result .at)
+begins : (c : tie.After-first-of) → let s = c .before in FirstInstant (b-row s) (s .args .i) (c .first-of .result .at)
 begins c =
     let s = c .before in
     let q = s .fits .b-period in

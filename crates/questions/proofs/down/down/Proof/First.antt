@@ -21,7 +21,7 @@ use Rattle.granules.proofs.Instants.{instantOf-labelled}
 use Rattle.granules.proofs.Questions.{first-labelled, first-at-most}
 use Rattle.cursors.specs.Found.{found, Within}
 use Rattle.cursors.proofs.Numbers.{numbers, valid}
-use Rattle.parts.specs.Walk.{Begins}
+use Rattle.containment.specs.First.{FirstInstant}
 use Rattle.questions.proofs.Checks.{Checked}
 use Rattle.questions.proofs.down.down.Proof.Passed.{h-row, g-row, begun, is-ranged, h-is, g-is, found-is}
 use Rattle.questions.proofs.down.down.Tie as tie
@@ -71,7 +71,7 @@ first-is c =
     let t = instant-fits (c .before) in
     (simp plain at (c .first-instant .ensures)) (s .args .z) (labelled (c .before))
 
-pub begins : (c : tie.After-first-instant) → let s = begun (checks (c .before)) in Begins (h-row s) (s .args .z) (c .first-instant .result)
+pub begins : (c : tie.After-first-instant) → let s = begun (checks (c .before)) in FirstInstant (h-row s) (s .args .z) (c .first-instant .result)
 begins c =
     let e = checks (c .before) in
     let s = begun e in
@@ -84,4 +84,4 @@ begins c =
     let o = first-labelled r v z (t, labelled (c .before)) in
     let lo = granule-near (meant r) (r .period) (r .distance) (meant-repeats r (v .positive .0)) (v .positive .1) (v .ordered) (first (granule r z)) t z o (labelled (c .before)) in
     let hi = first-at-most r v z t (labelled (c .before)) in
-    subst (Begins r z) (sym (first-is c)) (record { near = l .0 ∴ l .1 ∴ lo ∴ hi ∴ n .high ∴ simp ints (omega arith); label = o; least = first-at-most r v z })
+    subst (FirstInstant r z) (sym (first-is c)) (record { near = l .0 ∴ l .1 ∴ lo ∴ hi ∴ n .high ∴ simp ints (omega arith); label = o; least = first-at-most r v z })

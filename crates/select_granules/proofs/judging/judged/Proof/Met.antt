@@ -19,7 +19,7 @@ use Rattle.select_granules.specs.Memos.{Picks, Recalls}
 use Rattle.select_granules.proofs.Decisions.{recalls, judges}
 use Rattle.select_granules.proofs.Meetings.{walk-early}
 use Rattle.select_granules.proofs.judging.judged.Proof.Begun.{Inv-loop, μ-loop, J, a-row, b-row, a-sound, b-sound, a-rules, b-rules, F, begins}
-use Rattle.select_granules.proofs.judging.judged.Proof.Stands.{first-at, begun, here, near, Says, says, made}
+use Rattle.select_granules.proofs.judging.judged.Proof.Instant.{first-at, begun, here, near, Says, says, made}
 use Rattle.select_granules.proofs.judging.judged.Tie as tie
 
 pub enum-known-seen : tie.Need-enum-known-seen Inv-loop μ-loop

@@ -1,4 +1,4 @@
--- `select_granules::judging::seen_at` meets its contract: the label of t in a is looked at, then that in b.
+-- `containment::seen::seen_at` meets its contract: the label of t in a is looked at, then that in b.
 -- Assumes nothing.
 use borrow.Author.Needs.{needs, sfits-of}
 use mathlib.Core.Path.{_≡_, sym, _∙_, ap}
@@ -12,8 +12,8 @@ use Rattle.integers.proofs.Machine.{plain, test-eq}
 use Rattle.calendar.specs.Meaning.{Row, meant}
 use Rattle.calendar.specs.Questions.{given}
 use Rattle.cursors.specs.Found.{Near, found}
-use Rattle.select_granules.proofs.judging.seen_at.Statement.{statement}
-use Rattle.select_granules.proofs.judging.seen_at.Tie as tie
+use Rattle.containment.proofs.seen.seen_at.Statement.{statement}
+use Rattle.containment.proofs.seen.seen_at.Tie as tie
 
 abbrev a-row : tie.Start → Row
 a-row s = given (s .args .a-period) (s .args .a-distance) (s .args .a-cells .now)

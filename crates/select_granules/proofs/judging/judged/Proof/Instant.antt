@@ -4,20 +4,22 @@ use borrow.Author.Needs.{needs}
 use mathlib.Core.Path.{_≡_, subst}
 use mathlib.Core.Bool.{Bool}
 use Prim.Native.Nat.{_^_}
+use native.Mathlib.Omega.{arith}
 use lib.IntN.{ℤ, pos, _+ℤ_}
 use mir.Syntax.{w64}
 use mir.Val.{toZ}
+use Rattle.integers.proofs.Linear.{ints, _∴_}
 use Rattle.integers.proofs.Machine.{plain}
 use Rattle.calendar.specs.Compute.{selects}
 use Rattle.calendar.specs.Questions.{given}
 use Rattle.cursors.specs.Found.{Near, Within}
+use Rattle.containment.specs.declared.seen.Seen.{Seen}
+use Rattle.containment.specs.Seen.{SeenAt}
 use Rattle.select_granules.specs.declared.Picked.{Picked}
 use Rattle.select_granules.specs.declared.Decision.{Decision}
-use Rattle.select_granules.specs.declared.judging.Seen.{Seen}
 use Rattle.kinds.specs.Operations.{selectionOf}
 use Rattle.select_granules.specs.Memos.{flagOf, Recalls}
 use Rattle.select_granules.specs.Deciding.{selectionBy, Decides}
-use Rattle.select_granules.specs.Meeting.{SeenAt}
 use Rattle.select_granules.proofs.Decisions.{decides, remembers, whole-none}
 use Rattle.select_granules.proofs.Meetings.{walk-over}
 use Rattle.select_granules.proofs.judging.judged.Proof.Begun.{Inv-loop, μ-loop, Start, J, a-row, b-row, a-sound, b-sound, a-rules, b-rules, F, begins, near-first}
@@ -39,7 +41,7 @@ pub seen-at-requires : tie.Need-seen-at-requires Inv-loop μ-loop
 seen-at-requires c κs =
     let s = begun c in
     let w = c .loop .inv in
-    (a-sound s, (b-sound s, (near c .0, (w .a-cursor, w .b-cursor))))
+    (a-sound s, (b-sound s, (near c .0 ∴ simp ints (omega arith), (w .a-cursor, w .b-cursor))))
 
 abbrev pub Says : tie.After-seen-at Inv-loop μ-loop → Seen → Type 0
 Says c x = let s = begun (c .before) in SeenAt (a-row s) (b-row s) (J s) (here (c .before)) x
