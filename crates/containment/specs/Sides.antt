@@ -9,6 +9,7 @@ use Rattle.calendar.specs.Meaning.{Row, meant}
 use Rattle.calendar.specs.Lists.{all, is}
 use Rattle.calendar.specs.Granules.{granule}
 use Rattle.cursors.specs.Cursor.{cursorAt}
+use Rattle.cursors.specs.Direction.{away}
 use Rattle.containment.specs.declared.CursorPair.{CursorPair}
 use Rattle.containment.specs.Places.{instant, at}
 
@@ -21,12 +22,7 @@ pub record Overlaps (b a : Row) (p : CursorPair) : Type 0 where
   pub a-cursor : p .a ≡ cursorAt a (at b p)
   pub a-label : meant a (at b p) ≡ some (p .i)
 
--- the granule k of b lies in the granule i of a, as far as its instants from the place on go
-unfoldable pub insideFrom : Row → Row → CursorPair → Bool
+-- the granule k of b lies in the granule i of a, as far as its instants from the place on go, back or on
+unfoldable pub insideToward : Bool → Row → Row → CursorPair → Bool
 unfolding granule meant instant
-insideFrom b a p = all (λ u. ltZ u (at b p) || is (p .i) (meant a u)) (granule b (p .k))
-
--- and as far as its instants up to the place go
-unfoldable pub insideUpTo : Row → Row → CursorPair → Bool
-unfolding granule meant instant
-insideUpTo b a p = all (λ u. ltZ (at b p) u || is (p .i) (meant a u)) (granule b (p .k))
+insideToward back b a p = all (λ u. ltZ (away back (at b p) u) (pos 0) || is (p .i) (meant a u)) (granule b (p .k))

@@ -9,7 +9,7 @@ ghost use Rattle.calendar.specs.Granules.{granule, inside};
 ghost use Rattle.calendar.specs.Questions.{given, holder};
 ghost use Rattle.cursors.specs.Found.{found, Sound, Labelled};
 ghost use Rattle.cursors.specs.Cursor.{cursorAt, Standing};
-ghost use Rattle.containment.specs.Sides.{Overlaps, insideFrom, insideUpTo};
+ghost use Rattle.containment.specs.Sides.{Overlaps, insideToward};
 ghost use Rattle.containment.specs.Places.{at, Beside, stepAt};
 use cursors::Cursor;
 use cursors::Found;
@@ -75,8 +75,9 @@ fn step_at(
     Step::On
 }
 
-// Whether b's granule at the place lies in a's from that instant on.
-fn inside_forward(
+// Whether b's granule at the place lies in a's, as far as it goes back from that instant, or on.
+fn inside_toward(
+    back: bool,
     b_cells: &[i32],
     b_period: i64,
     b_distance: i64,
@@ -88,12 +89,12 @@ fn inside_forward(
     requires { ⌜ Sound «b_period» «b_distance» (now «b_cells») ⌝ }
     requires { ⌜ Sound «a_period» «a_distance» (now «a_cells») ⌝ }
     requires { ⌜ Overlaps (given «b_period» «b_distance» (now «b_cells»)) (given «a_period» «a_distance» (now «a_cells»)) from ⌝ }
-    ensures { λ r. ⌜ r ≡ insideFrom (given «b_period» «b_distance» (now («b_cells» .entry))) (given «a_period» «a_distance» (now («a_cells» .entry))) from ⌝ }
+    ensures { λ r. ⌜ r ≡ insideToward back (given «b_period» «b_distance» (now («b_cells» .entry))) (given «a_period» «a_distance» (now («a_cells» .entry))) from ⌝ }
 {
     let mut next = from;
     loop {
-        next.b = cursors::cursor_next(b_cells, b_period, b_distance, next.b);
-        next.a = cursors::cursor_next(a_cells, a_period, a_distance, next.a);
+        next.b = cursors::cursor_step(back, b_cells, b_period, b_distance, next.b);
+        next.a = cursors::cursor_step(back, a_cells, a_period, a_distance, next.a);
         let step = step_at(
             b_cells,
             b_period,
@@ -102,42 +103,6 @@ fn inside_forward(
             a_period,
             a_distance,
             next,
-        );
-        match step {
-            Step::On => {}
-            Step::Done => return true,
-            Step::Out => return false,
-        }
-    }
-}
-
-// Whether b's granule at the place lies in a's up to that instant.
-fn inside_back(
-    b_cells: &[i32],
-    b_period: i64,
-    b_distance: i64,
-    a_cells: &[i32],
-    a_period: i64,
-    a_distance: i64,
-    from: CursorPair,
-) -> bool
-    requires { ⌜ Sound «b_period» «b_distance» (now «b_cells») ⌝ }
-    requires { ⌜ Sound «a_period» «a_distance» (now «a_cells») ⌝ }
-    requires { ⌜ Overlaps (given «b_period» «b_distance» (now «b_cells»)) (given «a_period» «a_distance» (now «a_cells»)) from ⌝ }
-    ensures { λ r. ⌜ r ≡ insideUpTo (given «b_period» «b_distance» (now («b_cells» .entry))) (given «a_period» «a_distance» (now («a_cells» .entry))) from ⌝ }
-{
-    let mut previous = from;
-    loop {
-        previous.b = cursors::cursor_back(b_cells, b_period, b_distance, previous.b);
-        previous.a = cursors::cursor_back(a_cells, a_period, a_distance, previous.a);
-        let step = step_at(
-            b_cells,
-            b_period,
-            b_distance,
-            a_cells,
-            a_period,
-            a_distance,
-            previous,
         );
         match step {
             Step::On => {}
@@ -162,7 +127,8 @@ pub fn inside_at(
     requires { ⌜ Overlaps (given «b_period» «b_distance» (now «b_cells»)) (given «a_period» «a_distance» (now «a_cells»)) from ⌝ }
     ensures { λ r. ⌜ r ≡ inside (given «b_period» «b_distance» (now («b_cells» .entry))) (from .k) (given «a_period» «a_distance» (now («a_cells» .entry))) (from .i) ⌝ }
 {
-    inside_forward(
+    inside_toward(
+        false,
         b_cells,
         b_period,
         b_distance,
@@ -171,7 +137,8 @@ pub fn inside_at(
         a_distance,
         from,
     )
-        && inside_back(
+        && inside_toward(
+            true,
             b_cells,
             b_period,
             b_distance,
@@ -198,7 +165,8 @@ pub fn inside_from_first(
     requires { ⌜ at (given «b_period» «b_distance» (now «b_cells»)) from ≡ first (granule (given «b_period» «b_distance» (now «b_cells»)) (from .k)) ⌝ }
     ensures whole { λ r. ⌜ r ≡ inside (given «b_period» «b_distance» (now («b_cells» .entry))) (from .k) (given «a_period» «a_distance» (now («a_cells» .entry))) (from .i) ⌝ }
 {
-    inside_forward(
+    inside_toward(
+        false,
         b_cells,
         b_period,
         b_distance,

@@ -9,6 +9,7 @@ ghost use Rattle.calendar.specs.Meaning.{meant, empty};
 ghost use Rattle.calendar.specs.Questions.{given};
 ghost use Rattle.cursors.specs.Found.{found, Sound, Near};
 ghost use Rattle.cursors.specs.Cursor.{Index, cursorAt, Standing, Shown};
+ghost use Rattle.cursors.specs.Direction.{stepped};
 use calendar::Calendar;
 
 // A label or an instant, where there is one.
@@ -74,6 +75,27 @@ pub fn cursor_back(cells: &[i32], period: i64, distance: i64, c: Cursor) -> Curs
             rise: c.rise - distance,
         }
     }
+}
+
+// The cursor of the instant before if `back`, else of the next.
+pub fn cursor_step(back: bool, cells: &[i32], period: i64, distance: i64, c: Cursor) -> Cursor
+    requires { ⌜ Sound period distance (now cells) ⌝ }
+    requires { ⌜ Standing (given period distance (now cells)) c ⌝ }
+    ensures { λ r. ⌜ ((u : ℤ) → c ≡ cursorAt (given period distance (now (cells .entry))) u → r ≡ cursorAt (given period distance (now (cells .entry))) (stepped back u)) ⌝ }
+{
+    if back {
+        cursor_back(cells, period, distance, c)
+    } else {
+        cursor_next(cells, period, distance, c)
+    }
+}
+
+// The instant before t if `back`, else the next.
+pub fn step(back: bool, t: i64) -> i64
+    requires { ⌜ Near t ⌝ }
+    ensures { λ r. ⌜ r ≡ stepped back t ⌝ }
+{
+    if back { t - 1 } else { t + 1 }
 }
 
 // The cell at the index i.

@@ -8,13 +8,15 @@ ghost use Rattle.calendar.specs.Lists.{first, last};
 ghost use Rattle.calendar.specs.Granules.{granule};
 ghost use Rattle.calendar.specs.Questions.{given};
 ghost use Rattle.cursors.specs.Found.{Sound, Labelled};
+ghost use Rattle.granule_ends.specs.Ends.{endOf};
 use cursors::Found;
 
-// The first instant of the granule of t: back from t, past instants with no label, until another label shows.
-pub fn first_instant(cells: &[i32], period: i64, distance: i64, t: i64) -> i64
+// The end of the granule of t in a direction, back to its first instant or on to its last: from t, past instants with no label, until another label
+// shows.
+fn end_instant(back: bool, cells: &[i32], period: i64, distance: i64, t: i64) -> i64
     requires { ⌜ Sound period distance (now cells) ⌝ }
     requires { ⌜ Labelled (given period distance (now cells)) t ⌝ }
-    ensures { λ r. ⌜ ((j : ℤ) → meant (given period distance (now (cells .entry))) t ≡ some j → r ≡ first (granule (given period distance (now (cells .entry))) j)) ⌝ }
+    ensures { λ r. ⌜ ((j : ℤ) → meant (given period distance (now (cells .entry))) t ≡ some j → r ≡ endOf back (granule (given period distance (now (cells .entry))) j)) ⌝ }
 {
     let mut c = cursors::cursor_at(cells, period, distance, t);
     let own = cursors::cursor_label(cells, period, distance, c);
@@ -22,48 +24,37 @@ pub fn first_instant(cells: &[i32], period: i64, distance: i64, t: i64) -> i64
         return t;
     };
     let mut at = t;
-    let mut first = t;
+    let mut end = t;
     loop {
-        c = cursors::cursor_back(cells, period, distance, c);
-        at -= 1;
+        c = cursors::cursor_step(back, cells, period, distance, c);
+        at = cursors::step(back, at);
         let label = cursors::cursor_label(cells, period, distance, c);
         match label {
             Found::At(k) => {
                 if k != j {
-                    return first;
+                    return end;
                 }
-                first = at;
+                end = at;
             }
             Found::Nothing => {}
         }
     }
 }
 
-// The last instant of the granule of t: on from t, in the same way.
+// The first instant of the granule of t.
+pub fn first_instant(cells: &[i32], period: i64, distance: i64, t: i64) -> i64
+    requires { ⌜ Sound period distance (now cells) ⌝ }
+    requires { ⌜ Labelled (given period distance (now cells)) t ⌝ }
+    ensures { λ r. ⌜ ((j : ℤ) → meant (given period distance (now (cells .entry))) t ≡ some j → r ≡ first (granule (given period distance (now (cells .entry))) j)) ⌝ }
+{
+    end_instant(true, cells, period, distance, t)
+}
+
+// The last instant of the granule of t.
 pub fn last_instant(cells: &[i32], period: i64, distance: i64, t: i64) -> i64
     requires { ⌜ Sound period distance (now cells) ⌝ }
     requires { ⌜ Labelled (given period distance (now cells)) t ⌝ }
     ensures { λ r. ⌜ ((j : ℤ) → meant (given period distance (now (cells .entry))) t ≡ some j → r ≡ last (granule (given period distance (now (cells .entry))) j)) ⌝ }
 {
-    let mut c = cursors::cursor_at(cells, period, distance, t);
-    let own = cursors::cursor_label(cells, period, distance, c);
-    let Found::At(j) = own else {
-        return t;
-    };
-    let mut at = t;
-    let mut last = t;
-    loop {
-        c = cursors::cursor_next(cells, period, distance, c);
-        at += 1;
-        let label = cursors::cursor_label(cells, period, distance, c);
-        match label {
-            Found::At(k) => {
-                if k != j {
-                    return last;
-                }
-                last = at;
-            }
-            Found::Nothing => {}
-        }
-    }
+    end_instant(false, cells, period, distance, t)
 }

@@ -1,0 +1,3 @@
+-- The ends of a granule.
+--     Ends         the end in a direction
+pub mod Ends
