@@ -8,7 +8,7 @@ use Rattle.calendar.specs.Limits.{poolLimit, entryLimit}
 use Rattle.calendar.specs.Outcome.{outcome}
 use Rattle.calendar.specs.Outcome.Outcome.{refusedAt}
 use Rattle.calendar.specs.Worked.{Case, case, rowIn, rowOf, rowWith, entry, days, grouped, weeks, businessDays, renumberedDays, oddAndEven, labels, framed}
-use Rattle.calendar.specs.Worked.Shown.{refusal}
+use Rattle.calendar.specs.Worked.Excerpt.{refusal}
 
 -- ---- 1, 2 and 3, in this order
 

@@ -12,29 +12,29 @@ use Rattle.calendar.specs.Stored.{headingsAfter, poolAfter}
 
 -- ---- what is shown of a conversion
 
-pub data Shown : Type 0 where
-  row : Row → Shown
-  label : Option ℤ → Shown
-  refusal : ℕ → ℕ → Shown
-  lists : List ℕ → List ℤ → Shown
+pub data Excerpt : Type 0 where
+  row : Row → Excerpt
+  label : Option ℤ → Excerpt
+  refusal : ℕ → ℕ → Excerpt
+  lists : List ℕ → List ℤ → Excerpt
 
 -- the row of entry k, with as many headings as a table has entries at most and a pool of p cells
-unfoldable pub rowIn : List ℤ → ℕ → ℕ → Shown
+unfoldable pub rowIn : List ℤ → ℕ → ℕ → Excerpt
 unfolding outcome
 rowIn t p k = elim (outcome t entryLimit p) [ refusedAt m e ↦ refusal m e | rows l ↦ row (getD l k bottomRow) ]
 
 -- the same in a pool of 100 cells, which is enough for each table here
-unfoldable pub rowOf : List ℤ → ℕ → Shown
+unfoldable pub rowOf : List ℤ → ℕ → Excerpt
 unfolding rowIn
 rowOf t k = rowIn t 100 k
 
 -- the label of an instant in entry k
-unfoldable pub labelIn : List ℤ → ℕ → ℤ → Shown
+unfoldable pub labelIn : List ℤ → ℕ → ℤ → Excerpt
 unfolding outcome meant
 labelIn t k i = elim (outcome t entryLimit 100) [ refusedAt m e ↦ refusal m e | rows l ↦ label (meant (getD l k bottomRow) i) ]
 
 -- the lists left behind: m heading numbers and p cells
-unfoldable pub listsLeft : List ℤ → ℕ → ℕ → Shown
+unfoldable pub listsLeft : List ℤ → ℕ → ℕ → Excerpt
 unfolding outcome headingsAfter poolAfter
 listsLeft t m p = let o = outcome t (m / headingLength) p in lists (headingsAfter m o) (poolAfter p o)
 
@@ -66,7 +66,7 @@ oddAndEven = grouped 2 ++ entry 6 0 1 (pos 1) 1 (pos 0) ++ entry 6 0 1 (pos 2) 1
 
 -- ---- the twelve cases
 
-abbrev pub rowWith : ℕ → ℕ → List ℤ → Shown
+abbrev pub rowWith : ℕ → ℕ → List ℤ → Excerpt
 rowWith period distance cells = row (record { period = period; distance = distance; cells = cells })
 
 abbrev pub labels : List ℕ → List ℤ
@@ -80,10 +80,10 @@ abbrev pub oneToFive : List ℤ
 oneToFive = labels (1 ∷ 2 ∷ 3 ∷ 4 ∷ 5 ∷ [])
 
 pub record Case : Type 0 where
-  pub shown : Shown
-  pub expected : Shown
+  pub shown : Excerpt
+  pub expected : Excerpt
 
-abbrev pub case : Shown → Shown → Case
+abbrev pub case : Excerpt → Excerpt → Case
 case s e = record { shown = s; expected = e }
 
 unfoldable pub cases : List Case
