@@ -56,7 +56,7 @@ module _ (c : Calendar) (P N : ℕ) (repeats : Repeats P N c) where
   pub has-moved : (k j : ℤ) → Has c j → Has c (j +ℤ pos N *ℤ k)
   has-moved k j h = (h .0 +ℤ pos P *ℤ k, label-moved k (h .0) j (h .1))
 
-  -- "two instants of one granule are less than a period apart"
+  -- two instants of one granule are less than a period apart
   pub granule-near : 1 ≤ N → Ordered c → (s t j : ℤ) → c s ≡ some j → c t ≡ some j → t <ℤ (s +ℤ pos P)
   granule-near above ordered s t j e f = by (le-or-lt (s +ℤ pos P) t)
     where

@@ -55,7 +55,7 @@ pub meant-some : (r : Row) (t j : ℤ)
 unfolding meant
 meant-some r t j = raise-some (pos (r .distance) *ℤ floorDiv t (r .period)) j (cellLabel r (floorMod t (r .period)))
 
--- "its meaning is a calendar (ordered, repeats, labelled), for every instant"
+-- what a valid row means is a calendar, over all instants
 pub valid-calendar : (r : Row) → Valid r → IsCalendar (meant r)
 valid-calendar r v = record {
   ordered = v .ordered;
