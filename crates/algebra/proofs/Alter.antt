@@ -21,20 +21,16 @@ use Rattle.calendar.specs.Algebra.{Spans, alteredFirst, alteredLast, Labels}
 use Rattle.calendar.specs.Lists.{onLabel}
 use Rattle.calendar.specs.Distance.{size}
 use Rattle.calendar.specs.Compute.{firstFine, lastFine, result}
-use Rattle.granules.proofs.Tests.{some-inj, none≢some}
 use Rattle.granules.proofs.Calendars.{repeats-many}
 use Rattle.granules.proofs.Rows.{meant-repeats}
 use Rattle.algebra.specs.Ready.{meaning, Ready, Right}
+use Rattle.algebra.proofs.Labels.{onLabel-iff}
 use Rattle.algebra.proofs.Tiles.{Tiling, holder, tiles-ordered, rise-at-least, holder-iff, holder-turns}
 use Rattle.algebra.proofs.Fine.{Partitioned, low, high, low-spans}
 use Rattle.algebra.proofs.AlterSize.{coarseOf, fineOf, turnsFine, turnsRow, turns-proportional, turnsFine-positive, turnsRow-positive, distance-at-most, period-of, distance-is}
 use Rattle.algebra.proofs.Altered.{coarse-positive, first-turn, fine-spans, altered-tiling}
 
 -- ---- labels that depend on a label
-
-onLabel-iff : (o : Option ℤ) (g : ℤ → Option ℤ) (i : ℤ) → (onLabel o g ≡ some i) ↔ ((j : ℤ) × (o ≡ some j) × (g j ≡ some i))
-onLabel-iff none g i = (λ e. absurd (none≢some e), λ h. absurd (none≢some (h .1)))
-onLabel-iff (some k) g i = (λ e. (k, refl, e), λ h. ap g (some-inj (h .1)) ∙ h .2)
 
 onLabel-raise : (o : Option ℤ) (g : ℤ → Option ℤ) (m n : ℤ) → ((j : ℤ) → g (j +ℤ m) ≡ raise n (g j)) → onLabel (raise m o) g ≡ raise n (onLabel o g)
 onLabel-raise none g m n h = refl

@@ -97,19 +97,19 @@ sum-next P Q b c z p e = ap₂ (λ (P b : ℤ). P +ℤ b *ℤ z) p e ∙ simp in
 sum-turn : (P P′ b b′ z : ℤ) (B k m : ℕ) → P′ ≡ P +ℤ pos B *ℤ pos k → b′ ≡ b +ℤ pos m → P′ +ℤ b′ *ℤ z ≡ P +ℤ b *ℤ z +ℤ (pos (k * B) +ℤ z *ℤ pos m)
 sum-turn P P′ b b′ z B k m p e = ap₂ (λ (P b : ℤ). P +ℤ b *ℤ z) p e ∙ simp ints (omega arith)
 
-firstFine-is : (a b : Row) (x y : ℕ) (z i : ℤ) → firstFine a b x y z i ≡ low a b i +ℤ before x y i *ℤ z
+pub firstFine-is : (a b : Row) (x y : ℕ) (z i : ℤ) → firstFine a b x y z i ≡ low a b i +ℤ before x y i *ℤ z
 unfolding firstFine
 firstFine-is a b x y z i = refl
 
-lastFine-is : (a b : Row) (x y : ℕ) (z i : ℤ) → lastFine a b x y z i ≡ high a b i +ℤ changes x y i *ℤ z
+pub lastFine-is : (a b : Row) (x y : ℕ) (z i : ℤ) → lastFine a b x y z i ≡ high a b i +ℤ changes x y i *ℤ z
 unfolding lastFine
 lastFine-is a b x y z i = refl
 
-coarse-is : (a b : Row) (x : ℕ) → coarseOf x a b ≡ lcm (riseCoarse a b) x
+pub coarse-is : (a b : Row) (x : ℕ) → coarseOf x a b ≡ lcm (riseCoarse a b) x
 unfolding coarse
 coarse-is a b x = refl
 
-fine-is : (a b : Row) (x : ℕ) (z : ℤ)
+pub fine-is : (a b : Row) (x : ℕ) (z : ℤ)
     → fineOf x z a b ≡ pos (coarseOf x a b / riseCoarse a b * riseFine a b) +ℤ z *ℤ pos (coarseOf x a b / x)
 unfolding fine
 fine-is a b x z = refl

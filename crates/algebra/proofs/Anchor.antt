@@ -60,10 +60,10 @@ record Latest (c : Calendar) (t i : ℤ) : Type 0 where
   greatest : (v k : ℤ) → instant ≤ℤ v → v ≤ℤ t → c v ≡ some k → k ≤ℤ i
 
 -- ends of the window of P + 1 instants that ends with t
-window-end : (t u : ℤ) (P : ℕ) → u <ℤ (t -ℤ pos P +ℤ pos (suc P)) → u ≤ℤ t
+pub window-end : (t u : ℤ) (P : ℕ) → u <ℤ (t -ℤ pos P +ℤ pos (suc P)) → u ≤ℤ t
 window-end = simp ints (omega arith)
 
-in-window : (t u v : ℤ) (P : ℕ) → (t -ℤ pos P) ≤ℤ u → u ≤ℤ v → v ≤ℤ t → ((t -ℤ pos P) ≤ℤ v) × (v <ℤ (t -ℤ pos P +ℤ pos (suc P)))
+pub in-window : (t u v : ℤ) (P : ℕ) → (t -ℤ pos P) ≤ℤ u → u ≤ℤ v → v ≤ℤ t → ((t -ℤ pos P) ≤ℤ v) × (v <ℤ (t -ℤ pos P +ℤ pos (suc P)))
 in-window = simp ints (omega arith)
 
 before-end : (t u : ℤ) (P : ℕ) → u <ℤ (t -ℤ pos P +ℤ pos P) → u ≤ℤ t

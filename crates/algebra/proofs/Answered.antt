@@ -25,9 +25,10 @@ use Rattle.granules.proofs.Calendars.{periods-proportional}
 use Rattle.granules.proofs.Rows.{valid-of-least, labels-mem, label-index, cell-meant}
 use Rattle.granules.proofs.Least.{least-shorter, least-repeats}
 use Rattle.granules.proofs.Sound.{sound-valid, sound-limits, valid-sound}
+use Rattle.granules.proofs.Replies.{require-answer}
 use Rattle.algebra.specs.Ready.{Operands, Factor, meaning, Ready}
 use Rattle.algebra.specs.TableMeaning.{Labelled}
-use Rattle.algebra.proofs.Operations.{operands-weaken, require-answer}
+use Rattle.algebra.proofs.Operations.{operands-weaken}
 use Rattle.algebra.proofs.OperandChecks.{fullOperands-iff, aligned-iff}
 use Rattle.algebra.proofs.EmptiedCheck.{emptied-iff}
 use Rattle.algebra.proofs.Right.{right, size-dense}

@@ -16,8 +16,8 @@ use Rattle.calendar.specs.Reply.Reply.{answer}
 use Rattle.calendar.specs.Limits.{between, million}
 use Rattle.calendar.specs.Table.{Entry, Kind, kinds, one, two, noOperand, zero?, earlier, named}
 use Rattle.granules.proofs.Tests.{true≢false, and-iff, leZ-iff, ltb-iff}
+use Rattle.granules.proofs.Replies.{require-answer}
 use Rattle.algebra.specs.Ready.{Operands, Factor, FactorUnary, FactorBinary}
-use Rattle.algebra.proofs.Operations.{require-answer}
 
 infixr 5 _then_
 -- what an entry behind k others names

@@ -2,7 +2,7 @@
 use mathlib.Core.Path.{_≡_, refl, sym, _∙_, subst}
 use mathlib.Core.Logic.{_↔_, Iff·trans}
 use mathlib.Core.Option.{Option, none, some}
-use mathlib.Core.Bool.{Bool, true, false, not, _&&_, _||_}
+use mathlib.Core.Bool.{Bool, true, not, _&&_, _||_}
 use Prim.Native.Nat.{ℕ, zero, suc}
 use lib.IntN.{ℤ}
 use lib.Signed.{leZ}
@@ -15,7 +15,7 @@ use Rattle.calendar.specs.Lists.{equal, is, isSome, sameLabel, ifLabel}
 use Rattle.calendar.specs.Size.{turn, spanOf, rise}
 use Rattle.calendar.specs.Checks.{fullFirst, fullOperands, partitions, isSubcalendar, agrees, everywhere, riseAlike, alignedAs, aligned}
 use Rattle.granules.specs.Valid.{Valid}
-use Rattle.granules.proofs.Tests.{true≢false, and-iff, not-iff, false-iff, eqb-iff, equal-iff, leZ-iff, none≢some, isSome-iff, is-iff, sameLabel-iff, ifLabel-iff}
+use Rattle.granules.proofs.Tests.{true≢false, and-iff, both-iff, implies-iff, not-iff, false-iff, eqb-iff, equal-iff, leZ-iff, none≢some, isSome-iff, is-iff, sameLabel-iff, labelled-iff}
 use Rattle.granules.proofs.Count.{full-iff}
 use Rattle.algebra.specs.Ready.{Operands, meaning}
 use Rattle.algebra.proofs.Span.{span-positive, rise-positive, repeats-left, repeats-right}
@@ -23,23 +23,12 @@ use Rattle.algebra.proofs.Rises.{rises-subcalendar, rises-compatible}
 use Rattle.algebra.proofs.Everywhere.{everywhere-iff}
 use Rattle.algebra.proofs.Alignments.{PartitionAt, SubcalendarAt, SubcalendarPair, CompatibleAt, CompatiblePair, partition-moves, subcalendar-moves, compatible-moves, partition-iff, subcalendar-iff, compatible-iff}
 
--- ---- two tests in one
-
-both : {a b : Bool} {A B : Type 0} → (a ≡ true) ↔ A → (b ≡ true) ↔ B → (a && b ≡ true) ↔ (A × B)
-both {a} {b} f g =
-    let h = and-iff a b in
-    (λ e. (f .0 (h .0 e .0), g .0 (h .0 e .1)), λ p. h .1 (f .1 (p .0), g .1 (p .1)))
-
-implies : {a b : Bool} {A B : Type 0} → (a ≡ true) ↔ A → (b ≡ true) ↔ B → (not a || b ≡ true) ↔ (A → B)
-implies {a = true} f g = (λ e x. g .0 e, λ h. g .1 (h (f .0 refl)))
-implies {a = false} f g = (λ e x. absurd (true≢false (f .1 x) refl), λ h. refl)
-
 -- ---- full operands (check 7)
 
 full-first : (n : ℕ) (a b : Row) → Valid a → Valid b → (fullFirst n a b ≡ true) ↔ FullFirst n (meant a) (meant b)
 full-first zero a b va vb = (λ e. tt, λ h. refl)
 full-first (suc zero) a b va vb = full-iff a va
-full-first (suc (suc n)) a b va vb = both (full-iff a va) (full-iff b vb)
+full-first (suc (suc n)) a b va vb = both-iff (full-iff a va) (full-iff b vb)
 
 pub fullOperands-iff : (o : Operation Row) → Operands Valid o → (fullOperands o ≡ true) ↔ FullOperands (meaning o)
 unfolding fullOperands
@@ -48,9 +37,6 @@ fullOperands-iff (unary u a) v = full-first (fullUnary u) a a v v
 fullOperands-iff (binary o a b) v = full-first (fullBinary o) a b (v .0) (v .1)
 
 -- ---- the tests over two instants
-
-labelled : {P : ℤ → Type 0} (o : Option ℤ) (f : ℤ → Bool) → ((j : ℤ) → (f j ≡ true) ↔ P j) → (ifLabel o f ≡ true) ↔ ((j : ℤ) → o ≡ some j → P j)
-labelled o f h = (λ e j p. h j .0 (ifLabel-iff o f .0 e j p), λ g. ifLabel-iff o f .1 (λ j p. h j .1 (g j p)))
 
 partitions-iff : (a b : Row) (t u : ℤ) → (partitions a b t u ≡ true) ↔ PartitionAt (meant a) (meant b) t u
 partitions-iff a b t u = by (meant a t) refl
@@ -65,7 +51,7 @@ partitions-iff a b t u = by (meant a t) refl
       },
       λ h. not-iff (isSome (meant b t)) .1 (false-iff (isSome-iff (meant b t)) .1 (λ q. none≢some (sym e ∙ h .labelled .1 q .1))),
     )
-    by (some j) e = Iff·trans (both (isSome-iff (meant b t)) (implies (is-iff j (meant a u)) (sameLabel-iff (meant b t) (meant b u)))) (
+    by (some j) e = Iff·trans (both-iff (isSome-iff (meant b t)) (implies-iff (is-iff j (meant a u)) (sameLabel-iff (meant b t) (meant b u)))) (
       λ p. record {
         labelled = (λ q. p .0, λ q. (j, e));
         together = λ k f g. p .1 (g ∙ sym f ∙ e);
@@ -74,26 +60,26 @@ partitions-iff a b t u = by (meant a t) refl
     )
 
 isSubcalendar-iff : (a b : Row) (t u : ℤ) → (isSubcalendar a b t u ≡ true) ↔ SubcalendarPair (meant a) (meant b) t u
-isSubcalendar-iff a b t u = labelled (meant b t) test decides
+isSubcalendar-iff a b t u = labelled-iff (meant b t) test decides
   where
     test : ℤ → Bool
     test j = is j (meant a t) && (not (is j (meant a u)) || is j (meant b u))
 
     decides : (j : ℤ) → (test j ≡ true) ↔ SubcalendarAt (meant a) (meant b) t u j
-    decides j = Iff·trans (both (is-iff j (meant a t)) (implies (is-iff j (meant a u)) (is-iff j (meant b u))))
+    decides j = Iff·trans (both-iff (is-iff j (meant a t)) (implies-iff (is-iff j (meant a u)) (is-iff j (meant b u))))
         (λ p. record { here = p .0; there = p .1 }, λ h. (h .here, h .there))
 
 agrees-iff : (a b : Row) (t u : ℤ) → (agrees a b t u ≡ true) ↔ CompatiblePair (meant a) (meant b) t u
-agrees-iff a b t u = labelled (meant a t) (λ i. ifLabel (meant b u) (test i)) (λ i. labelled (meant b u) (test i) (decides i))
+agrees-iff a b t u = labelled-iff (meant a t) (λ i. ifLabel (meant b u) (test i)) (λ i. labelled-iff (meant b u) (test i) (decides i))
   where
     test : ℤ → ℤ → Bool
     test i j = (not (leZ t u) || leZ i j) && ((not (leZ u t) || leZ j i) && (not (equal i j) || (is i (meant b t) && is i (meant a u))))
 
     decides : (i j : ℤ) → (test i j ≡ true) ↔ CompatibleAt (meant a) (meant b) t u i j
     decides i j = Iff·trans
-        (both (implies (leZ-iff t u) (leZ-iff i j))
-        (both (implies (leZ-iff u t) (leZ-iff j i))
-        (implies (equal-iff i j) (both (is-iff i (meant b t)) (is-iff i (meant a u))))))
+        (both-iff (implies-iff (leZ-iff t u) (leZ-iff i j))
+        (both-iff (implies-iff (leZ-iff u t) (leZ-iff j i))
+        (implies-iff (equal-iff i j) (both-iff (is-iff i (meant b t)) (is-iff i (meant a u))))))
         (λ p. record { before = p .0; behind = p .1 .0; shared = p .1 .1 }, λ h. (h .before, (h .behind, h .shared)))
 
 -- ---- aligned operands (check 9)

@@ -1,12 +1,8 @@
--- Operations with other operands, and replies that rest on checks.
+-- Operations with other operands.
 use mathlib.Core.Path.{_≡_, refl, ap, ap₂}
-use mathlib.Core.Bool.{Bool, true, false}
-use Prim.Native.Nat.{ℕ}
-use native.Mathlib.Omega.{arith}
 use Rattle.calendar.specs.Operation.{Operation, mapOperation}
 use Rattle.calendar.specs.Operation.Operation.{bottom, unary, binary}
-use Rattle.calendar.specs.Reply.{Reply, require}
-use Rattle.calendar.specs.Reply.Reply.{answer}
+pub use Rattle.granules.proofs.Replies.{require-answer}
 use Rattle.algebra.specs.Ready.{Operands, Factor}
 
 -- ---- operands
@@ -32,10 +28,3 @@ pub map-operands : {A B C D : Type 0} (f : A → B) (g : A → C) (h : B → D) 
 map-operands f g h k bottom e = refl
 map-operands f g h k (unary u a) e = ap (unary u) e
 map-operands f g h k (binary b l r) e = ap₂ (binary b) (e .0) (e .1)
-
--- ---- replies
-
--- an answer behind a check: it has passed
-pub require-answer : {A : Type 0} {a : A} (n : ℕ) (b : Bool) (r : Reply A) → require n b r ≡ answer a → (b ≡ true) × (r ≡ answer a)
-require-answer n true r e = (refl, e)
-require-answer n false r e = let z : _≡_ {A = ℕ} 0 1 = cc in absurd (omega arith)

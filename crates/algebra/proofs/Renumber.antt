@@ -90,7 +90,7 @@ module _ (a : Row) (v : Valid a) where
       total-window (has a) k n ∴ ap (total (has a)) e ∴ simp ints (omega arith)
 
   -- a label is numbered by those up to it less those below x
-  renumbered-total : (x j : ℤ) → Has (meant a) j → renumbered a x j ≡ total (has a) (j +ℤ pos 1) -ℤ total (has a) x
+  pub renumbered-total : (x j : ℤ) → Has (meant a) j → renumbered a x j ≡ total (has a) (j +ℤ pos 1) -ℤ total (has a) x
   renumbered-total x j p = by (le-or-lt x j)
     where
       one : count (has a) (j ∷ []) ≡ 1

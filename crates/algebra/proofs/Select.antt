@@ -2,7 +2,7 @@
 use mathlib.Core.Path.{_≡_, refl, sym, _∙_, ap, subst}
 use mathlib.Core.Logic.{_↔_}
 use mathlib.Core.Bool.{Bool, true, _||_}
-use mathlib.Core.List.{List, [], _∷_, List·Memᴰ, Memᴰ·cast}
+use mathlib.Core.List.{List, [], _∷_, List·Memᴰ}
 use Prim.Native.Nat.{ℕ, _*_, _/_}
 use native.Mathlib.Omega.{arith}
 use lib.IntN.{ℤ, pos, _+ℤ_}
@@ -20,7 +20,7 @@ use Rattle.calendar.specs.Distance.{size}
 use Rattle.calendar.specs.Compute.{result, selects}
 use Rattle.granules.specs.Valid.{Valid}
 use Rattle.granules.proofs.Tests.{test-ext, equal-iff}
-use Rattle.granules.proofs.Lists.{any-iff, lists-unique, moved}
+use Rattle.granules.proofs.Lists.{any-iff, member-iff, lists-unique, moved}
 use Rattle.granules.proofs.Inside.{inside-iff, meeting-lists, within-lists}
 use Rattle.granules.proofs.Moved.{meeting-periods, within-periods, inside-periods}
 use Rattle.algebra.specs.Ready.{Ready, Right}
@@ -29,12 +29,6 @@ use Rattle.algebra.proofs.Kept.{kept-iff, kept-ordered, kept-repeats}
 use Rattle.algebra.proofs.Pick.{pick-member, pick-moved}
 
 -- ---- tests over lists that are moved
-
-member-iff : (j : ℤ) (l : List ℤ) → (any (equal j) l ≡ true) ↔ List·Memᴰ j l
-member-iff j l = (
-  λ e. let h = any-iff (equal j) l .0 e in Memᴰ·cast (equal-iff j (h .0) .0 (h .2)) (h .1),
-  λ m. any-iff (equal j) l .1 (j, m, equal-iff j j .1 refl),
-)
 
 any-moved : (f g : ℤ → Bool) (k : ℤ) → ((u : ℤ) → f (u +ℤ k) ≡ g u) → (l : List ℤ) → any f (moved k l) ≡ any g l
 any-moved f g k h [] = refl

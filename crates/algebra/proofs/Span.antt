@@ -1,7 +1,7 @@
 -- Two valid rows over their span: it is whole turns of each, over which the labels rise.
 use mathlib.Core.Path.{_≡_, sym, _∙_, ap}
 use Prim.Native.Nat.{ℕ, _≤_, _*_, _/_, _∣_}
-use native.Mathlib.Nat.{mul-div-cancel', le-of-dvd, le-div-iff-mul-le, mul-pos}
+use native.Mathlib.Nat.{mul-div-cancel', mul-div-le, mul-le-mul-right, le-of-dvd, le-div-iff-mul-le, mul-pos}
 use native.Mathlib.Omega.{arith}
 use lib.IntN.{pos, _+ℤ_}
 use Rattle.integers.proofs.Divisors.{lcm-dvd, lcm-pos}
@@ -18,6 +18,10 @@ span-dvd a b = lcm-dvd (a .period) (b .period)
 span-pos : (a b : Turn) → 1 ≤ a .period → 1 ≤ b .period → 1 ≤ spanOf a b
 unfolding spanOf
 span-pos a b = lcm-pos (a .period) (b .period)
+
+-- labels rise by at most one an instant
+pub rise-at-most : (a : Turn) (s : ℕ) → a .distance ≤ a .period → rise a s ≤ s
+rise-at-most a s h = omega (arith, mul-le-mul-right (s / a .period) h, mul-div-le s (a .period))
 
 -- a row over s instants, a multiple of its period
 module _ (r : Row) (v : Valid r) (s : ℕ) (above : 1 ≤ s) (d : r .period ∣ s) where

@@ -20,7 +20,8 @@ use Rattle.calendar.specs.Outcome.Outcome.{rows}
 use Rattle.calendar.specs.Stored.{joined}
 use Rattle.granules.proofs.Tests.{leb-iff}
 use Rattle.granules.proofs.Sound.{sound-valid}
-use Rattle.algebra.proofs.Operations.{operands-weaken, operands-map, factor-map, require-answer}
+use Rattle.granules.proofs.Replies.{require-answer}
+use Rattle.algebra.proofs.Operations.{operands-weaken, operands-map, factor-map}
 use Rattle.algebra.proofs.Answered.{converted-sound}
 use Rattle.algebra.proofs.Named.{named-operation}
 use Rattle.algebra.proofs.Steps.{judged-is, afterEntry, entries-zero, entries-suc, afterTable, outcome-is}

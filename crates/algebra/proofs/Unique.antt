@@ -2,22 +2,19 @@
 use mathlib.Core.Path.{_≡_, refl, ap, subst}
 use mathlib.Core.List.{List, [], _∷_, _++_}
 use Prim.Native.Nat.{ℕ, suc, _-_}
-use native.Mathlib.Omega.{arith}
 use lib.IntN.{ℤ}
 use lib.ListN.{getD}
 use Rattle.calendar.specs.Operation.{Operation, mapOperation}
 use Rattle.calendar.specs.Reply.{Reply}
-use Rattle.calendar.specs.Reply.Reply.{refused, answer}
+use Rattle.calendar.specs.Reply.Reply.{refused}
 use Rattle.calendar.specs.Table.{Entry}
+use Rattle.granules.proofs.Replies.{answer≢refused}
 use Rattle.algebra.specs.TableMeaning.{Meant, nothing, Judged, EntryJudged, Entries, TableReply, TableMeans}
 use Rattle.algebra.specs.TableMeaning.EntryJudged.{unread, read}
 use Rattle.algebra.specs.TableMeaning.Entries.{done, stop, next}
 use Rattle.algebra.specs.TableMeaning.TableReply.{refusedAt}
 use Rattle.algebra.specs.TableMeaning.TableMeans.{not-admitted, entries}
 use Rattle.algebra.proofs.Converted.{judged-unique}
-
-answer≢refused : {A : Type 0} {a : A} {n : ℕ} {x : Reply A} → x ≡ answer a → x ≡ refused n → ⊥
-answer≢refused e f = let z : _≡_ {A = ℕ} 0 1 = cc in omega arith
 
 -- an entry has one reply
 entry-unique : {before : List Meant} {room : ℕ} {e : Entry} {x y : Reply Meant} → EntryJudged before room e x → EntryJudged before room e y → x ≡ y

@@ -1,24 +1,25 @@
 -- How large n and D are, and how far the walk over b goes: b's labels rise by A every span, n is a multiple of A, and n/A is at most x.
 -- Assumes nothing.
-use mathlib.Core.Path.{_≡_, refl}
+use mathlib.Core.Path.{_≡_}
 use mathlib.Core.Logic.{_⊎_, inl, inr}
 use mathlib.Core.Option.{some}
 use Prim.Native.Nat.{ℕ, _+_, _*_, _/_, _^_, _≤_, _∣_}
-use native.Mathlib.Nat.{div-le-self, div-le-of-le-mul, mul-le-mul, mul-le-mul-right, mul-div-le, mul-div-cancel'}
+use native.Mathlib.Nat.{div-le-self, div-le-of-le-mul, mul-le-mul, mul-le-mul-right, mul-div-cancel'}
 use native.Mathlib.Omega.{arith}
 use lib.IntN.{ℤ, pos, negsuc, negℤ, _+ℤ_, _*ℤ_}
 use lib.Signed.{_≤ℤ_, _<ℤ_}
 use Rattle.integers.specs.Parts.{up}
 use Rattle.integers.specs.Gcd.{gcd, lcm}
 use Rattle.integers.proofs.Linear.{ints, _∴_}
-use Rattle.integers.proofs.Order.{le-or-lt, mul-mono}
+use Rattle.integers.proofs.Order.{le-or-lt, mul-mono, up-le}
 use Rattle.integers.proofs.Divisors.{lcm-dvd}
 use Rattle.calendar.specs.Limits.{poolLimit}
 use Rattle.calendar.specs.Meaning.{Row, meant}
-use Rattle.calendar.specs.Size.{Turn, turn, spanOf, rise, coarse, fine}
+use Rattle.calendar.specs.Size.{turn, spanOf, coarse, fine}
 use Rattle.granules.proofs.Calendars.{label-moved}
-use Rattle.algebra.proofs.Span.{repeats-right, rise-positive-right}
+use Rattle.algebra.proofs.Span.{rise-at-most, repeats-right, rise-positive-right}
 use Rattle.algebra.proofs.Fine.{riseCoarse, riseFine}
+use Rattle.algebra.proofs.Altered.{coarse-is, fine-is}
 use Rattle.kinds.specs.declared.Alteration.{Alteration}
 use Rattle.alter_granules.specs.declared.Repeat.{Repeat}
 use Rattle.alter_granules.specs.Given.{Alterable}
@@ -27,28 +28,11 @@ use Rattle.alter_granules.proofs.Tiled.{known, coarse-low, fine-low}
 
 -- ---- n and D
 
-coarse-is : (a b : Row) (x : ℕ) → coarse (turn a) (turn b) x ≡ lcm (riseCoarse a b) x
-unfolding coarse
-coarse-is a b x = refl
-
-fine-is : (a b : Row) (x : ℕ) (z : ℤ)
-    → fine (turn a) (turn b) x z ≡ pos (coarse (turn a) (turn b) x / riseCoarse a b * riseFine a b) +ℤ z *ℤ pos (coarse (turn a) (turn b) x / x)
-unfolding fine
-fine-is a b x z = refl
-
 lcm-at-most : (m n : ℕ) → lcm m n ≤ m * n
 unfolding lcm
 lcm-at-most m n = mul-le-mul-right n (div-le-self m (gcd m n))
 
--- labels rise by at most one an instant
-rise-at-most : (a : Turn) (s : ℕ) → a .distance ≤ a .period → rise a s ≤ s
-rise-at-most a s h = omega (arith, mul-le-mul-right (s / a .period) h, mul-div-le s (a .period))
-
-up-at-most : (z : ℤ) (n : ℕ) → z ≤ℤ pos n → up z ≤ n
-up-at-most (pos m) n h = omega (arith, simp ints at h)
-up-at-most (negsuc m) n h = omega arith
-
-fine-sum : (m c : ℕ) (z d : ℤ) → d ≡ pos m +ℤ z *ℤ pos c → m ≤ 4194304000000 → c ≤ poolLimit → (pos c *ℤ z) ≤ℤ (pos c *ℤ pos 1000000) → d ≤ℤ pos 8388608000000
+fine-sum : (m c : ℕ) (z d : ℤ) → d ≡ pos m +ℤ z *ℤ pos c → m ≤ 1000000 * poolLimit → c ≤ poolLimit → (pos c *ℤ z) ≤ℤ (pos c *ℤ pos 1000000) → d ≤ℤ pos 8388608000000
 fine-sum m c z d e h k l = e ∴ h ∴ k ∴ l ∴ simp ints (omega arith)
 
 reached : (S A m n : ℕ) (t i u k : ℤ) → pos 0 ≤ℤ t → t ≤ℤ pos poolLimit → i ≤ℤ k → k ≤ℤ (i +ℤ pos 4 *ℤ pos n)
@@ -64,7 +48,7 @@ reached S A m n t i u k lo hi h g above whole s r low high =
 
 module _ (by : Alteration) (a b : Row) (given : Altering by a b) (dense-a : a .distance ≤ a .period) (dense-b : b .distance ≤ b .period) where
   x-high : up (by .x) ≤ 1000000
-  x-high = up-at-most (by .x) 1000000 (given .1 .limits .x-high)
+  x-high = up-le (given .1 .limits .x-high)
 
   coarse-at-most : coarse (turn a) (turn b) (up (by .x)) ≤ riseCoarse a b * up (by .x)
   coarse-at-most = rw (coarse-is a b (up (by .x))) (lcm-at-most (riseCoarse a b) (up (by .x)))

@@ -19,9 +19,9 @@ use Rattle.calendar.specs.Meaning.{Row}
 use Rattle.calendar.specs.Algebra.{changes, alteredFirst}
 use Rattle.calendar.specs.Compute.{firstFine, lastFine, altered}
 use Rattle.algebra.proofs.Tiles.{Tiling, holder, rises-many, tiles-ordered, rise-at-least, holder-iff}
-use Rattle.algebra.proofs.Fine.{Partitioned, low, high, low-next}
+use Rattle.algebra.proofs.Fine.{Partitioned, low, low-next}
 use Rattle.algebra.proofs.AlterSize.{coarseOf, fineOf}
-use Rattle.algebra.proofs.Altered.{coarse-positive, first-turn, altered-tiling}
+use Rattle.algebra.proofs.Altered.{lastFine-is, coarse-positive, first-turn, altered-tiling}
 use Rattle.kinds.specs.declared.Alteration.{Alteration}
 use Rattle.alter_granules.specs.Follows.{Altering, turnCoarse, turnFine, begins, Holds}
 
@@ -30,10 +30,6 @@ use Rattle.alter_granules.specs.Follows.{Altering, turnCoarse, turnFine,
 first-is : (a b : Row) (x y : ℕ) (z i : ℤ) → firstFine a b x y z i ≡ alteredFirst x y z i (low a b i)
 unfolding firstFine
 first-is a b x y z i = refl
-
-last-is : (a b : Row) (x y : ℕ) (z i : ℤ) → lastFine a b x y z i ≡ high a b i +ℤ changes x y i *ℤ z
-unfolding lastFine
-last-is a b x y z i = refl
 
 altered-is : (a b : Row) (x y : ℕ) (z j : ℤ) → altered a b x y z j ≡ holder (firstFine a b x y z) (lastFine a b x y z) (coarseOf x a b) (up (fineOf x z a b)) j
 unfolding altered
@@ -103,7 +99,7 @@ module _ (by : Alteration) (a b : Row) (given : Altering by a b) where
 
   -- z is added for each change up to the granule before
   begins-after : (i : ℤ) → begins by a b (i +ℤ pos 1) ≡ low a b (i +ℤ pos 1) +ℤ changes (up (by .x)) (up (by .y)) i *ℤ by .z
-  begins-after i = tiling .next i ∴ last-is a b (up (by .x)) (up (by .y)) (by .z) i ∴ low-next a b known i ∴ simp ints (omega arith)
+  begins-after i = tiling .next i ∴ lastFine-is a b (up (by .x)) (up (by .y)) (by .z) i ∴ low-next a b known i ∴ simp ints (omega arith)
 
   pub begins-is : (i : ℤ) → begins by a b i ≡ low a b i +ℤ changes (up (by .x)) (up (by .y)) (i -ℤ pos 1) *ℤ by .z
   begins-is i =

@@ -9,6 +9,7 @@
 --     Lists        lists of numbers and tests on them
 --     Table        what each entry names, and the checks that need no row
 --     Sound        rule 13 for a row that is handed in
+--     Asked        what a question to two rows asks, over the calendars that they mean
 --     Refusals     the calendar type and the refusals of the code
 --   The same, computed:
 --     Granules     granules of a row, by search
@@ -29,6 +30,7 @@ pub mod Reply
 pub mod Lists
 pub mod Table
 pub mod Sound
+pub mod Asked
 pub mod Refusals
 pub mod Granules
 pub mod Distance

@@ -30,6 +30,13 @@ cell-cases (negsuc n) = by (true-or-false (eqb n 2147483647))
     by (inl e) = inl (rw e, ap negsuc (eqb-iff n 2147483647 .0 e))
     by (inr e) = inr (rw e)
 
+pub label-full : (z : ℤ) → ¬ (z ≡ empty) → labelOf z ≡ some z
+label-full z f = by (cell-cases z)
+  where
+    by : ((labelOf z ≡ none) × (z ≡ empty)) ⊎ (labelOf z ≡ some z) → labelOf z ≡ some z
+    by (inl p) = absurd (f (p .1))
+    by (inr p) = p
+
 pub labelOf-inj : (y z : ℤ) → labelOf y ≡ labelOf z → y ≡ z
 labelOf-inj y z e = by (cell-cases y) (cell-cases z)
   where

@@ -74,7 +74,7 @@ floor-is n p d m h k = by (up (d -ℤ pos n *ℤ m)) (pos-up {z = d -ℤ pos n *
 
 module _ (r : Row) (v : Valid r) where
   -- k periods on
-  label-on : (k t j : ℤ) → meant r t ≡ some j → meant r (t +ℤ pos (r .period) *ℤ k) ≡ some (j +ℤ pos (r .distance) *ℤ k)
+  pub label-on : (k t j : ℤ) → meant r t ≡ some j → meant r (t +ℤ pos (r .period) *ℤ k) ≡ some (j +ℤ pos (r .distance) *ℤ k)
   label-on = label-moved (meant r) (r .period) (r .distance) (meant-repeats r (v .positive .0))
 
   -- the label of t, taken back to the first turn

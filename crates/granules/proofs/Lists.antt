@@ -3,12 +3,12 @@ use mathlib.Core.Path.{_≡_, refl, sym, _∙_, ap, ap₂}
 use mathlib.Core.Logic.{_↔_, Iff·symm, Iff·trans, _⊎_, inl, inr, ⊎-elim}
 use mathlib.Core.Option.{Option, none, some}
 use mathlib.Core.Bool.{Bool, true, false, cond}
-use mathlib.Core.List.{List, [], _∷_, map, List·Memᴰ, List·Memᴰ·head, List·Memᴰ·tail, List·Memᴰ·not-nil, List·Memᴰ·cases-cons}
-use Prim.Native.Nat.{ℕ, zero, suc}
+use mathlib.Core.List.{List, [], _∷_, _++_, map, List·Memᴰ, List·Memᴰ·head, List·Memᴰ·tail, List·Memᴰ·not-nil, List·Memᴰ·cases-cons, List·Memᴰ·append-cases, List·Memᴰ·eq-of-singleton, Memᴰ·cast}
+use Prim.Native.Nat.{ℕ, zero, suc, _<_}
 use native.Mathlib.Omega.{arith}
 use lib.IntN.{ℤ, pos, _+ℤ_}
 use lib.Signed.{_≤ℤ_, _<ℤ_}
-use lib.ListN.{length}
+use lib.ListN.{length, getD}
 use Rattle.integers.proofs.Linear.{ints, _∴_}
 use Rattle.integers.proofs.Order.{Cases, below, equal as same, above, cases, <ℤ→≤ℤ}
 use Rattle.calendar.specs.Meaning.{Calendar, Ordered}
@@ -62,6 +62,18 @@ any-iff f (x ∷ l) = (
   λ h. or-iff (f x) (any f l) .1 (⊎-elim (λ q. inl (ap f (sym q) ∙ h .2)) (λ m. inr (any-iff f l .1 (h .0, m, h .2))) (List·Memᴰ·cases-cons (h .1))),
 )
 
+pub member-iff : (j : ℤ) (l : List ℤ) → (any (equal j) l ≡ true) ↔ List·Memᴰ j l
+member-iff j l = (
+  λ e. let h = any-iff (equal j) l .0 e in Memᴰ·cast (equal-iff j (h .0) .0 (h .2)) (h .1),
+  λ m. any-iff (equal j) l .1 (j, m, equal-iff j j .1 refl),
+)
+
+-- what stands behind the end does not matter to a cell before it
+pub getD-any : (l : List ℤ) (i : ℕ) (d e : ℤ) → i < length l → getD l i d ≡ getD l i e
+getD-any [] i d e h = absurd (omega arith)
+getD-any (z ∷ l) zero d e h = refl
+getD-any (z ∷ l) (suc i) d e h = getD-any l i d e (omega arith)
+
 pub length-from : (t : ℤ) (n : ℕ) → length (from t n) ≡ n
 length-from t zero = refl
 length-from t (suc n) = ap suc (length-from (t +ℤ pos 1) n)
@@ -84,6 +96,17 @@ rising-tail j (k ∷ l) r = r .1
 pub rising-cons : (j : ℤ) (l : List ℤ) → ((k : ℤ) → List·Memᴰ k l → j <ℤ k) → Rising l → Rising (j ∷ l)
 rising-cons j [] h r = tt
 rising-cons j (k ∷ l) h r = (h k (List·Memᴰ·head refl), r)
+
+-- one list after another that is above it
+pub rising-append : (l m : List ℤ) → Rising l → Rising m → ((j k : ℤ) → List·Memᴰ j l → List·Memᴰ k m → j <ℤ k) → Rising (l ++ m)
+rising-append [] m r s h = s
+rising-append (j ∷ l) m r s h =
+    rising-cons j (l ++ m) (λ k n. ⊎-elim (rising-head j l r k) (h j k (List·Memᴰ·head refl)) (List·Memᴰ·append-cases l n))
+    (rising-append l m (rising-tail j l r) s (λ j k a b. h j k (List·Memᴰ·tail a) b))
+
+-- one number more
+pub rising-more : (l : List ℤ) (k : ℤ) → Rising l → ((j : ℤ) → List·Memᴰ j l → j <ℤ k) → Rising (l ++ (k ∷ []))
+rising-more l k r h = rising-append l (k ∷ []) r tt (λ j i m n. rw (List·Memᴰ·eq-of-singleton n) (h j m))
 
 pub rising-from : (t : ℤ) (n : ℕ) → Rising (from t n)
 rising-from t zero = tt

@@ -13,9 +13,7 @@ use Rattle.calendar.specs.Granules.{has, granule, inside, meeting, within}
 use Rattle.granules.specs.Valid.{Valid}
 use Rattle.granules.proofs.Tests.{test-ext}
 use Rattle.granules.proofs.Lists.{lists-unique, moved}
-use Rattle.granules.proofs.Calendars.{label-moved}
-use Rattle.granules.proofs.Rows.{meant-repeats}
-use Rattle.granules.proofs.Instants.{has-iff}
+use Rattle.granules.proofs.Instants.{label-on, has-iff}
 use Rattle.granules.proofs.Granule.{granule-lists}
 use Rattle.granules.proofs.Inside.{inside-iff, meeting-lists, within-lists}
 
@@ -76,12 +74,11 @@ module _ (a b : Calendar) (s m n : ℤ) (f : Moves a s m) (g : Moves b s n) wher
 -- any number of periods, forward or back
 pub moves-many : (r : Row) → Valid r → (k : ℤ) → Moves (meant r) (pos (r .period) *ℤ k) (pos (r .distance) *ℤ k)
 moves-many r v k u j = (
-  λ e. ap (meant r) (simp ints (omega arith)) ∙ on (negℤ k) (u +ℤ pos (r .period) *ℤ k) (j +ℤ pos (r .distance) *ℤ k) e ∙ ap some (simp ints (omega arith)),
-  on k u j,
+  λ e. ap (meant r) (simp ints (omega arith))
+      ∙ label-on r v (negℤ k) (u +ℤ pos (r .period) *ℤ k) (j +ℤ pos (r .distance) *ℤ k) e
+      ∙ ap some (simp ints (omega arith)),
+  label-on r v k u j,
 )
-  where
-    on : (k t j : ℤ) → meant r t ≡ some j → meant r (t +ℤ pos (r .period) *ℤ k) ≡ some (j +ℤ pos (r .distance) *ℤ k)
-    on = label-moved (meant r) (r .period) (r .distance) (meant-repeats r (v .positive .0))
 
 pub moves : (r : Row) → Valid r → (m : ℕ) → Moves (meant r) (pos (r .period * m)) (pos (r .distance * m))
 moves r v m = moves-many r v (pos m)

@@ -1,13 +1,15 @@
 -- Tests that compute, and what they decide.
 use mathlib.Core.Path.{_≡_, refl, sym, _∙_, ap, subst}
-use mathlib.Core.Logic.{_↔_, _⊎_, inl, inr, ⊎-elim, ⊎-map}
+use mathlib.Core.Logic.{_↔_, Iff·trans, Iff·and, _⊎_, inl, inr, ⊎-elim, ⊎-map}
 use mathlib.Core.Option.{Option, none, some, Option·some-injective, Option·none-ne-some}
 use mathlib.Core.Bool.{Bool, true, false, not, _&&_, _||_}
 use lib.IntN.{ℤ, pos, negsuc, pos-ne-negsuc}
 use lib.Signed.{_≤ℤ_, _<ℤ_, leZ, ltZ}
+use mir.Syntax.{Width}
+use mir.Val.{SFits, ofZ}
 use Prim.Native.Nat.{ℕ, suc, _≤_, _<_}
 use lib.Dec.{T, eqb, leb, ltb, eqb→eq, eqb-refl, leb→le, le→leb}
-use Rattle.integers.proofs.Machine.{test-le, test-lt}
+use Rattle.integers.proofs.Machine.{test-le, test-lt, test-eq}
 use Rattle.calendar.specs.Lists.{equal, is, isSome, sameLabel, ifLabel, only}
 
 -- ---- booleans
@@ -44,6 +46,14 @@ false-iff {A} {b} h = (λ e a. true≢false (h .1 a) e, λ f. by (true-or-false 
     by (inl e) f = absurd (f (h .0 e))
     by (inr e) f = e
 
+-- tests in one, of what each decides
+pub both-iff : {a b : Bool} {A B : Type 0} → (a ≡ true) ↔ A → (b ≡ true) ↔ B → (a && b ≡ true) ↔ (A × B)
+both-iff {a} {b} f g = Iff·trans (and-iff a b) (Iff·and f g)
+
+pub implies-iff : {a b : Bool} {A B : Type 0} → (a ≡ true) ↔ A → (b ≡ true) ↔ B → (not a || b ≡ true) ↔ (A → B)
+implies-iff {a = true} f g = (λ e x. g .0 e, λ h. g .1 (h (f .0 refl)))
+implies-iff {a = false} f g = (λ e x. absurd (true≢false (f .1 x) refl), λ h. refl)
+
 -- two tests that decide the same are equal
 pub test-ext : {a b : Bool} → (a ≡ true → b ≡ true) → (b ≡ true → a ≡ true) → a ≡ b
 test-ext {a = true} {b} f g = sym (f refl)
@@ -78,6 +88,13 @@ leZ-iff = test-le
 pub ltZ-iff : (j k : ℤ) → (ltZ j k ≡ true) ↔ (j <ℤ k)
 ltZ-iff = test-lt
 
+-- the machine's test of two numbers that fit compares their bits
+pub bits-equal : (w : Width) (i j : ℤ) → SFits w i → SFits w j → eqb (ofZ w i) (ofZ w j) ≡ equal i j
+bits-equal w i j f g =
+    let b = eqb-iff (ofZ w i) (ofZ w j) in
+    let e = test-eq w i j f g in
+    test-ext (λ h. equal-iff i j .1 (e .0 (b .0 h))) (λ h. b .1 (e .1 (equal-iff i j .0 h)))
+
 pub some-inj : {j k : ℤ} → some j ≡ some k → j ≡ k
 some-inj {j} {k} e = Option·some-injective j k e
 
@@ -105,6 +122,10 @@ sameLabel-iff (some j) p = (λ e. sym (is-iff j p .0 e), λ e. is-iff j p .1 (sy
 pub ifLabel-iff : (o : Option ℤ) (f : ℤ → Bool) → (ifLabel o f ≡ true) ↔ ((j : ℤ) → o ≡ some j → f j ≡ true)
 ifLabel-iff none f = (λ e j h. absurd (none≢some h), λ h. refl)
 ifLabel-iff (some j) f = (λ e k h. subst (λ (i : ℤ). f i ≡ true) (some-inj h) e, λ h. h j refl)
+
+pub labelled-iff : {P : ℤ → Type 0} (o : Option ℤ) (f : ℤ → Bool) → ((j : ℤ) → (f j ≡ true) ↔ P j)
+    → (ifLabel o f ≡ true) ↔ ((j : ℤ) → o ≡ some j → P j)
+labelled-iff o f h = (λ e j p. h j .0 (ifLabel-iff o f .0 e j p), λ g. ifLabel-iff o f .1 (λ j p. h j .1 (g j p)))
 
 pub only-iff : (j k : ℤ) (b : Bool) → (only j b ≡ some k) ↔ ((j ≡ k) × (b ≡ true))
 only-iff j k true = (λ e. (some-inj e, refl), λ h. ap {B = Option ℤ} some (h .0))

@@ -79,5 +79,13 @@ pub pos-up : {z : ℤ} → pos 0 ≤ℤ z → pos (up z) ≡ z
 pos-up {z = pos n} h = refl
 pos-up {z = negsuc n} h = absurd (h .le)
 
+pub is-up : (z : ℤ) → 1 ≤ up z → z ≡ pos (up z)
+is-up (pos n) h = refl
+is-up (negsuc n) h = absurd (omega arith)
+
+pub up-le : {z : ℤ} {n : ℕ} → z ≤ℤ pos n → up z ≤ n
+up-le {z = pos m} h = omega (arith, simp ints at h)
+up-le {z = negsuc m} h = omega arith
+
 pub up-pos : {z : ℤ} → pos 0 <ℤ z → 0 < up z
 up-pos {z} h = omega (arith, simp ints at h)

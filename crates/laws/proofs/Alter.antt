@@ -13,6 +13,7 @@ use Rattle.calendar.specs.Operation.Binary.{alter}
 use Rattle.calendar.specs.Operation.Operation.{binary}
 use Rattle.calendar.specs.Algebra.{Spans, alteredFirst, alteredLast, Result, Partition, Emptied}
 use Rattle.granules.proofs.Tests.{some-inj, label-ext}
+use Rattle.algebra.proofs.Fine.{spans-unique}
 use Rattle.laws.proofs.Intermediate.{level}
 
 -- ---- the granules of a in a granule of b
@@ -66,28 +67,6 @@ module _ (a b : Calendar) (full : Full a) (over : Partition a b) where
 
       l : (p : ℤ) × (q : ℤ) × (p ≤ℤ q) × ((j : ℤ) → (holding j ≡ i) ↔ ((p ≤ℤ j) × (j ≤ℤ q)))
       l = level holding (holding-mono oa ob) onto i
-
--- the granules of a that b's granule i is are known by i
-pub spans-unique : (a b : Calendar) → Full a → (i p q p′ q′ : ℤ) → Spans a b i p q → Spans a b i p′ q′ → (p ≡ p′) × (q ≡ q′)
-spans-unique a b full i p q p′ q′ S T =
-    let f = within p q p′ q′ S T in
-    let g = within p′ q′ p q T S in
-    (≤ℤ-antisym (g .0) (f .0), ≤ℤ-antisym (f .1) (g .1))
-  where
-    -- an end of one lies in the other
-    member : (p q p′ q′ j : ℤ) → Spans a b i p q → Spans a b i p′ q′ → p ≤ℤ j → j ≤ℤ q → (p′ ≤ℤ j) × (j ≤ℤ q′)
-    member p q p′ q′ j S T l m =
-        let u = full j .0 in
-        let e = full j .1 in
-        let h = T .1 u .0 (S .1 u .1 (j, e, l, m)) in
-        let k = some-inj (sym (h .1) ∙ e) in
-        (subst (λ (z : ℤ). p′ ≤ℤ z) k (h .2), subst (λ (z : ℤ). z ≤ℤ q′) k (h .3))
-
-    within : (p q p′ q′ : ℤ) → Spans a b i p q → Spans a b i p′ q′ → (p′ ≤ℤ p) × (q ≤ℤ q′)
-    within p q p′ q′ S T = (
-      member p q p′ q′ p S T (simp ints (omega arith)) (S .0) .0,
-      member p q p′ q′ q S T (S .0) (simp ints (omega arith)) .1,
-    )
 
 -- ---- the ends of an altered granule
 

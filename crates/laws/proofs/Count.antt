@@ -3,7 +3,7 @@ use mathlib.Core.Path.{_≡_, refl, sym, _∙_, ap, subst}
 use mathlib.Core.Logic.{_⊎_, inl, inr, ⊎-elim}
 use mathlib.Core.Option.{some}
 use mathlib.Core.Bool.{Bool, _&&_}
-use mathlib.Core.List.{List, [], _∷_, _++_, map, List·Memᴰ, List·Memᴰ·head, List·Memᴰ·tail, List·Memᴰ·not-nil, List·Memᴰ·eq-of-singleton, List·Memᴰ·append-cases, Memᴰ·append-left, Memᴰ·append-right}
+use mathlib.Core.List.{List, [], _∷_, _++_, map, List·Memᴰ, List·Memᴰ·head, List·Memᴰ·not-nil, List·Memᴰ·eq-of-singleton, List·Memᴰ·append-cases, Memᴰ·append-left, Memᴰ·append-right}
 use Prim.Native.Nat.{ℕ, _+_, _≤_}
 use native.Mathlib.Nat.{mul-le-mul-left}
 use native.Mathlib.Omega.{arith}
@@ -14,10 +14,10 @@ use Rattle.integers.specs.Parts.{up}
 use Rattle.integers.proofs.Linear.{ints, _∴_}
 use Rattle.integers.proofs.Order.{le-or-lt, pos-up, <ℤ→≤ℤ, ≤ℤ-trans}
 use Rattle.calendar.specs.Meaning.{Calendar, Has, Full, IsCalendar}
-use Rattle.calendar.specs.Algebra.{Rising, Lists}
+use Rattle.calendar.specs.Algebra.{Lists}
 use Rattle.calendar.specs.Lists.{keep, from, distinct}
 use Rattle.granules.proofs.Tests.{and-iff, leZ-iff, ltZ-iff}
-use Rattle.granules.proofs.Lists.{mem-from, mem-keep, length-from, rising-from, rising-keep, rising-cons, rising-head, rising-tail, lists-unique, distinct-lists}
+use Rattle.granules.proofs.Lists.{mem-from, mem-keep, length-from, rising-from, rising-keep, rising-append, lists-unique, distinct-lists}
 use Rattle.granules.proofs.Calendars.{label-moved}
 
 -- k is a label of c from x on and before z
@@ -32,12 +32,6 @@ before-end : (lo hi u : ℤ) → u <ℤ hi → u <ℤ (lo +ℤ pos (up (hi -ℤ 
 before-end lo hi u o = o ∴ le-up (hi -ℤ lo) ∴ simp ints (omega arith)
 
 -- ---- listed
-
-rising-append : (l m : List ℤ) → Rising l → Rising m → ((j k : ℤ) → List·Memᴰ j l → List·Memᴰ k m → j <ℤ k) → Rising (l ++ m)
-rising-append [] m r s h = s
-rising-append (j ∷ l) m r s h =
-    rising-cons j (l ++ m) (λ k n. ⊎-elim (rising-head j l r k) (h j k (List·Memᴰ·head refl)) (List·Memᴰ·append-cases l n))
-    (rising-append l m (rising-tail j l r) s (λ j k a b. h j k (List·Memᴰ·tail a) b))
 
 -- one stretch after another
 lists-append : (c : Calendar) (x y z : ℤ) (l m : List ℤ) → x ≤ℤ y → y ≤ℤ z → Lists (Between c x y) l → Lists (Between c y z) m → Lists (Between c x z) (l ++ m)

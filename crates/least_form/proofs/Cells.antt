@@ -1,11 +1,11 @@
 -- One cell repeats another with a rise: the two cases of the machine's test.
 -- Assumes nothing.
-use mathlib.Core.Path.{_≡_, refl, sym, _∙_, ap}
-use mathlib.Core.Logic.{_↔_, _⊎_, inl, inr}
+use mathlib.Core.Path.{_≡_, sym, _∙_, ap}
+use mathlib.Core.Logic.{_↔_}
 use mathlib.Core.Option.{Option, none, some}
 use mathlib.Core.Bool.{Bool, true}
-use mathlib.Core.List.{List, [], _∷_}
-use Prim.Native.Nat.{ℕ, zero, suc, _+_, _<_}
+use mathlib.Core.List.{List}
+use Prim.Native.Nat.{ℕ, _+_, _<_}
 use native.Mathlib.Omega.{arith}
 use lib.ListN.{length, getD}
 use lib.IntN.{ℤ, pos, _+ℤ_, _-ℤ_}
@@ -16,15 +16,9 @@ use Rattle.integers.proofs.Linear.{ints, _∴_}
 use Rattle.calendar.specs.Meaning.{labelOf, raise, empty}
 use Rattle.calendar.specs.Lists.{sameLabel}
 use Rattle.granules.proofs.Tests.{sameLabel-iff}
+use Rattle.granules.proofs.Lists.{getD-any}
 use Rattle.granules.proofs.Rows.{label-is}
-use Rattle.granules.proofs.Equal.{cell-cases, labelOf-inj}
-
-label-full : (z : ℤ) → (z ≡ empty → ⊥) → labelOf z ≡ some z
-label-full z f = by (cell-cases z)
-  where
-    by : ((labelOf z ≡ none) × (z ≡ empty)) ⊎ (labelOf z ≡ some z) → labelOf z ≡ some z
-    by (inl p) = absurd (f (p .1))
-    by (inr p) = p
+use Rattle.granules.proofs.Equal.{label-full, labelOf-inj}
 
 -- what repeats an empty cell is empty
 pub raised-empty : (a b n : ℤ) → a ≡ empty → (labelOf b ≡ raise n (labelOf a)) ↔ (b ≡ empty)
@@ -44,12 +38,6 @@ raised-label a b n fits f h = (λ e. label-is b (a +ℤ n) (e ∙ some-a) ∴ si
     full e g = f (e ∴ g ∴ h ∴ fits ∴ simp ints (omega arith))
 
 -- ---- along a list
-
--- what stands behind the end does not matter to a cell before it
-getD-any : (l : List ℤ) (i : ℕ) (d e : ℤ) → i < length l → getD l i d ≡ getD l i e
-getD-any [] i d e h = absurd (omega arith)
-getD-any (z ∷ l) zero d e h = refl
-getD-any (z ∷ l) (suc i) d e h = getD-any l i d e (omega arith)
 
 -- the cell t is repeated q behind, raised by n
 abbrev pub RepeatsAt : List ℤ → ℕ → ℤ → ℕ → Type 0

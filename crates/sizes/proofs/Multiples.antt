@@ -15,7 +15,7 @@ use Rattle.integers.proofs.Divisors.{gcd-comm, gcd-pos, lcm-comm, lcm-dvd, lcm-
 use Rattle.calendar.specs.Size as Size
 use Rattle.sizes.specs.declared.Turn.{Turn}
 use Rattle.sizes.specs.Stored.{turnOf, Alterable, longest, mostCoarse}
-use Rattle.sizes.proofs.Whole.{rise-at-most}
+use Rattle.algebra.proofs.Span.{rise-at-most}
 
 -- ---- the quotients of a least common multiple
 

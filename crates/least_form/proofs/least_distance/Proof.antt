@@ -16,10 +16,10 @@ use Rattle.integers.proofs.Divide.{div-needs}
 use Rattle.calendar.specs.Limits.{poolLimit}
 use Rattle.calendar.specs.Least.{least}
 use Rattle.calendar.specs.Questions.{given}
+use Rattle.granules.proofs.Numbers.{Numbers, numbers}
 use Rattle.granules.proofs.Sound.{sound-valid}
 use Rattle.granules.proofs.Least.{least-row, least-shorter}
 use Rattle.least_form.specs.Row.{IsLeast}
-use Rattle.least_form.proofs.Numbers.{Numbers, numbers}
 use Rattle.least_form.proofs.least_distance.Statement.{statement}
 use Rattle.least_form.proofs.least_distance.Tie as tie
 
@@ -41,7 +41,7 @@ product-fits {y = negsuc m} {z} h k = absurd (h .low .le)
 
 -- ---- the numbers of the row
 module _ (period distance q : ℤ) (cells : List ℤ) (h : IsLeast period distance q cells) where
-  known : Numbers period distance
+  known : Numbers period distance cells
   known = numbers period distance cells (h .passed)
 
   small-period : Small period

@@ -20,11 +20,11 @@ use Rattle.integers.proofs.Divisors.{gcd-pos}
 use Rattle.calendar.specs.Limits.{poolLimit}
 use Rattle.calendar.specs.Least.{least}
 use Rattle.calendar.specs.Questions.{given}
+use Rattle.granules.proofs.Numbers.{Numbers, numbers}
 use Rattle.granules.specs.Valid.{Valid}
 use Rattle.granules.proofs.Tests.{true≢false}
 use Rattle.granules.proofs.Sound.{sound-valid}
 use Rattle.least_form.specs.Cells.{RepeatsWithin}
-use Rattle.least_form.proofs.Numbers.{Numbers, numbers}
 use Rattle.least_form.proofs.Search.{row, Searched, search-start, search-found, search-next, search-last, least-dvd}
 use Rattle.least_form.proofs.least_period.Statement.{statement}
 use Rattle.least_form.proofs.least_period.Tie as tie
@@ -37,7 +37,7 @@ abbrev μ-loop : tie.MeasureT-loop
 
 -- ---- the numbers that the code casts
 
-known : (c : tie.Start Inv-loop μ-loop) → Numbers (c .args .period) (c .args .distance)
+known : (c : tie.Start Inv-loop μ-loop) → Numbers (c .args .period) (c .args .distance) (c .args .cells .now)
 known c = numbers (c .args .period) (c .args .distance) (c .args .cells .now) (c .pre)
 
 abbrev p : tie.Start Inv-loop μ-loop → ℕ

@@ -2,7 +2,7 @@
 use borrow.Author.Needs.{needs}
 use native.Mathlib.Omega.{arith}
 use Rattle.sizes.specs.Stored.{turnOf}
-use Rattle.sizes.proofs.Whole.{rise-at-most}
+use Rattle.algebra.proofs.Span.{rise-at-most}
 use Rattle.sizes.proofs.rise.Statement.{statement}
 use Rattle.sizes.proofs.rise.Tie as tie
 

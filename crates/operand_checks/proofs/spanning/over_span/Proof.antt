@@ -13,7 +13,7 @@ use Rattle.calendar.specs.Limits.{poolLimit}
 use Rattle.calendar.specs.Size.{rise}
 use Rattle.sizes.specs.declared.Turn.{Turn}
 use Rattle.sizes.specs.Stored.{turnOf, Stored}
-use Rattle.sizes.proofs.Whole.{rise-at-most}
+use Rattle.algebra.proofs.Span.{rise-at-most}
 use Rattle.operand_checks.specs.declared.Extent.{Extent}
 use Rattle.operand_checks.specs.Shared.{turnFor}
 use Rattle.operand_checks.proofs.Naturals.{Natural, natural, up-mono, stored}
