@@ -1,28 +1,32 @@
 -- The tests of two instants by the outcomes of their parts.
 -- Assumes nothing.
-use mathlib.Core.Path.{_≡_, sym, _∙_, ap, ap₂}
-use mathlib.Core.Option.{Option, some}
-use mathlib.Core.Bool.{Bool, not, _&&_, _||_, cond}
-use lib.Dec.{eqb}
+use mathlib.Core.Path.{_≡_, refl, sym, _∙_, ap, ap₂}
+use mathlib.Core.Option.{Option, none, some}
+use mathlib.Core.Bool.{Bool, true, false, not, _&&_, _||_, cond}
 use lib.IntN.{ℤ}
 use lib.Signed.{ltZ}
-use mir.Syntax.{w64}
-use mir.Val.{SFits, ofZ}
-use Rattle.integers.proofs.Machine.{test-eq}
 use Rattle.calendar.specs.Lists.{equal, is, isSome, sameLabel}
-use Rattle.granules.proofs.Tests.{test-ext, eqb-iff, equal-iff}
+use Rattle.granules.proofs.Tests.{true≢false}
 use Rattle.alignment.specs.Fits.{fitsPartition, fitsSubcalendar, crosses, agree, fitsCompatible}
-
--- labels are the same exactly if their bits are
-pub bits-test : (i j : ℤ) → SFits w64 i → SFits w64 j → eqb (ofZ w64 i) (ofZ w64 j) ≡ equal i j
-bits-test i j f g =
-    let b = eqb-iff (ofZ w64 i) (ofZ w64 j) in
-    let e = test-eq w64 i j f g in
-    test-ext (λ h. equal-iff i j .1 (e .0 (b .0 h))) (λ h. b .1 (e .1 (equal-iff i j .0 h)))
 
 -- an outcome that is r is b
 pub outcome : {r x b : Bool} → r ≡ x → r ≡ b → x ≡ b
 outcome e h = sym e ∙ h
+
+-- two labels are compared, and agree where one is missing
+pub agree-both : (x y : Option ℤ) → isSome x ≡ true → isSome y ≡ true → agree x y ≡ sameLabel x y
+agree-both none y p q = absurd (true≢false p refl)
+agree-both (some i) none p q = absurd (true≢false q refl)
+agree-both (some i) (some j) p q = refl
+
+pub agree-first : (x y : Option ℤ) → isSome x ≡ false → agree x y ≡ true
+agree-first none y p = refl
+agree-first (some i) y p = absurd (true≢false refl p)
+
+pub agree-second : (x y : Option ℤ) → isSome y ≡ false → agree x y ≡ true
+agree-second none y p = refl
+agree-second (some i) none p = refl
+agree-second (some i) (some j) p = absurd (true≢false refl p)
 
 module _ (o p x y : Option ℤ) where
   pub partition-at : (a b s q : Bool) → isSome x ≡ a → isSome y ≡ b → sameLabel o x ≡ s → sameLabel p y ≡ q → fitsPartition o p x y ≡ cond a (b && (not s || q)) (not b)

@@ -13,20 +13,11 @@ use Rattle.calendar.specs.Meaning.{Calendar}
 use Rattle.calendar.specs.Operation.{Alignment}
 use Rattle.calendar.specs.Operation.Alignment.{free, partition, subcalendar, compatible}
 use Rattle.calendar.specs.Lists.{equal, is, isSome, ifLabel}
-use Rattle.granules.proofs.Tests.{true≢false, and-iff, or-iff, not-iff, false-iff, equal-iff, ltZ-iff, isSome-iff, is-iff, sameLabel-iff, ifLabel-iff, true-or-false}
+use Rattle.granules.proofs.Tests.{true≢false, true-or-false, or-iff, both-iff, implies-iff, not-iff, false-iff, equal-iff, ltZ-iff, isSome-iff, is-iff, sameLabel-iff, labelled-iff}
 use Rattle.alignment.specs.Fits.{fits, fitsPartition, fitsSubcalendar, crosses}
 use Rattle.alignment.proofs.Pairs.{Pair, Pairs}
 
 -- ---- tests in one
-
-both : {a b : Bool} {A B : Type 0} → (a ≡ true) ↔ A → (b ≡ true) ↔ B → (a && b ≡ true) ↔ (A × B)
-both {a} {b} f g =
-    let h = and-iff a b in
-    (λ e. (f .0 (h .0 e .0), g .0 (h .0 e .1)), λ p. h .1 (f .1 (p .0), g .1 (p .1)))
-
-implies : {a b : Bool} {A B : Type 0} → (a ≡ true) ↔ A → (b ≡ true) ↔ B → (not a || b ≡ true) ↔ (A → B)
-implies {a = true} f g = (λ e x. g .0 e, λ h. g .1 (h (f .0 refl)))
-implies {a = false} f g = (λ e x. absurd (true≢false (f .1 x) refl), λ h. refl)
 
 fails : {a : Bool} {A : Type 0} → (a ≡ true) ↔ A → (not a ≡ true) ↔ (A → ⊥)
 fails {a} f = Iff·trans (not-iff a) (false-iff f)
@@ -36,31 +27,28 @@ by-case : {a b c : Bool} {A B C : Type 0} → (a ≡ true) ↔ A → (b ≡ true
 by-case {a = true} f g h = (λ e. (λ x. g .0 e, λ n. absurd (n (f .0 refl))), λ p. g .1 (p .0 (f .0 refl)))
 by-case {a = false} f g h = (λ e. (λ x. absurd (true≢false (f .1 x) refl), λ n. h .0 e), λ p. h .1 (p .1 (λ x. true≢false (f .1 x) refl)))
 
-labelled : {P : ℤ → Type 0} (o : Option ℤ) (f : ℤ → Bool) → ((j : ℤ) → (f j ≡ true) ↔ P j) → (ifLabel o f ≡ true) ↔ ((j : ℤ) → o ≡ some j → P j)
-labelled o f h = (λ e j p. h j .0 (ifLabel-iff o f .0 e j p), λ g. ifLabel-iff o f .1 (λ j p. h j .1 (g j p)))
-
 abbrev Some : Option ℤ → Type 0
 Some o = (j : ℤ) × (o ≡ some j)
 
 -- ---- what the tests say
 
 partition-says : (o p x y : Option ℤ) → (fitsPartition o p x y ≡ true) ↔ ((Some x → Some y × (o ≡ x → p ≡ y)) × ((Some x → ⊥) → (Some y → ⊥)))
-partition-says o p x y = by-case (isSome-iff x) (both (isSome-iff y) (implies (sameLabel-iff o x) (sameLabel-iff p y))) (fails (isSome-iff y))
+partition-says o p x y = by-case (isSome-iff x) (both-iff (isSome-iff y) (implies-iff (sameLabel-iff o x) (sameLabel-iff p y))) (fails (isSome-iff y))
 
 subcalendar-says : (o p x y : Option ℤ) → (fitsSubcalendar o p x y ≡ true) ↔ ((Some y → (x ≡ y) × (o ≡ x → Some p)) × ((Some y → ⊥) → Some x → o ≡ x → (Some p → ⊥)))
 subcalendar-says o p x y =
-    by-case (isSome-iff y) (both (sameLabel-iff x y) (implies (sameLabel-iff o x) (isSome-iff p)))
-    (implies (isSome-iff x) (implies (sameLabel-iff o x) (fails (isSome-iff p))))
+    by-case (isSome-iff y) (both-iff (sameLabel-iff x y) (implies-iff (sameLabel-iff o x) (isSome-iff p)))
+    (implies-iff (isSome-iff x) (implies-iff (sameLabel-iff o x) (fails (isSome-iff p))))
 
 crosses-says : (o p x y : Option ℤ) → (crosses o p x y ≡ true) ↔ ((i : ℤ) → o ≡ some i → (j : ℤ) → y ≡ some j → (i ≤ℤ j) × (i ≡ j → (p ≡ some i) × (x ≡ some i)))
-crosses-says o p x y = labelled o (λ i. ifLabel y (test i)) (λ i. labelled y (test i) (decides i))
+crosses-says o p x y = labelled-iff o (λ i. ifLabel y (test i)) (λ i. labelled-iff y (test i) (decides i))
   where
     test : ℤ → ℤ → Bool
     test i j = ltZ i j || (equal i j && (is i p && is i x))
 
     decides : (i j : ℤ) → (test i j ≡ true) ↔ ((i ≤ℤ j) × (i ≡ j → (p ≡ some i) × (x ≡ some i)))
     decides i j =
-        let alike = both (equal-iff i j) (both (is-iff i p) (is-iff i x)) in
+        let alike = both-iff (equal-iff i j) (both-iff (is-iff i p) (is-iff i x)) in
         let whole = or-iff (ltZ i j) (equal i j && (is i p && is i x)) in (
           λ e. ⊎-elim
               (λ l. (ltZ-iff i j .0 l ∴ simp ints (omega arith), λ q. absurd (ltZ-iff i j .0 l ∴ q ∴ simp ints (omega arith))))
@@ -97,8 +85,8 @@ module _ (c d : Calendar) (v t : ℤ) where
   says-iff partition = partition-says (c v) (d v) (c t) (d t)
   says-iff subcalendar = subcalendar-says (c v) (d v) (c t) (d t)
   says-iff compatible =
-      both (labelled (c t) (λ i. ifLabel (d t) (equal i)) (λ i. labelled (d t) (equal i) (equal-iff i)))
-      (both (crosses-says (c v) (d v) (c t) (d t)) (crosses-says (d v) (c v) (d t) (c t)))
+      both-iff (labelled-iff (c t) (λ i. ifLabel (d t) (equal i)) (λ i. labelled-iff (d t) (equal i) (equal-iff i)))
+      (both-iff (crosses-says (c v) (d v) (c t) (d t)) (crosses-says (d v) (c v) (d t) (c t)))
 
   -- of t alone
   own : (k : Alignment) → Says k → Pair k c d t t

@@ -1,6 +1,6 @@
 -- The labels of two rows rise alike over their span exactly if their distances are in the proportion of their periods.
 -- Assumes nothing.
-use mathlib.Core.Path.{_≡_, sym, _∙_, ap, ap₂}
+use mathlib.Core.Path.{_≡_, refl, sym, _∙_, ap, ap₂}
 use mathlib.Core.Logic.{_↔_}
 use mathlib.Core.Bool.{Bool, true, false, _&&_}
 use mathlib.Core.List.{List}
@@ -15,17 +15,18 @@ use Rattle.integers.specs.Parts.{up}
 use Rattle.integers.proofs.Linear.{ints, _∴_}
 use Rattle.calendar.specs.Limits.{poolLimit}
 use Rattle.calendar.specs.Meaning.{Row}
-use Rattle.calendar.specs.Operation.Alignment.{subcalendar, compatible}
+use Rattle.calendar.specs.Operation.{Alignment}
+use Rattle.calendar.specs.Operation.Alignment.{free, partition, subcalendar, compatible}
 use Rattle.calendar.specs.Lists.{equal}
 use Rattle.calendar.specs.Checks.{riseAlike, alignedAs, everywhere, isSubcalendar, agrees}
 use Rattle.calendar.specs.Questions.{given}
 use Rattle.calendar.specs.Size.{turn, spanOf, rise}
 use Rattle.granules.specs.Valid.{Valid}
-use Rattle.granules.proofs.Tests.{eqb-iff, equal-iff, false-iff}
+use Rattle.granules.proofs.Tests.{true≢false, eqb-iff, equal-iff, false-iff}
 use Rattle.algebra.proofs.Span.{span-positive, span-left, span-right}
 use Rattle.cursors.specs.Found.{Sound}
 use Rattle.cursors.proofs.Numbers.{numbers, valid}
-use Rattle.alignment.specs.Pass.{Limited}
+use Rattle.alignment.specs.Pass.{isFree, asksRise, RiseAlike, Limited}
 
 -- n·(s/p), scaled by p·q
 scaled : (n p q k s : ℕ) → p * k ≡ s → n * q * s ≡ n * k * (q * p)
@@ -65,7 +66,21 @@ pub product-fits : (p n q m : ℤ) → Limited p n → Limited q m → SFits w64
 product-fits p n q m a b =
     product n q (a .low) (a .middle ∴ a .high ∴ simp ints (omega arith)) (b .low ∴ b .middle ∴ simp ints (omega arith)) (b .high)
 
--- rows that are handed in
+-- ---- the alignments apart
+
+pub free-aligned : (k : Alignment) (a b : Row) → isFree k ≡ true → alignedAs k a b ≡ true
+free-aligned free a b h = refl
+free-aligned partition a b h = absurd (true≢false h refl)
+free-aligned subcalendar a b h = absurd (true≢false h refl)
+free-aligned compatible a b h = absurd (true≢false h refl)
+
+pub is-partition : (k : Alignment) → isFree k ≡ false → asksRise k ≡ false → k ≡ partition
+is-partition free h g = absurd (true≢false refl h)
+is-partition partition h g = refl
+is-partition subcalendar h g = absurd (true≢false refl g)
+is-partition compatible h g = absurd (true≢false refl g)
+
+-- ---- rows that are handed in
 module _ (p n q m : ℤ) (c d : List ℤ) (sa : Sound p n c) (sb : Sound q m d) where
   abbrev a : Row
   a = given p n c
@@ -73,7 +88,7 @@ module _ (p n q m : ℤ) (c d : List ℤ) (sa : Sound p n c) (sb : Sound q m d) 
   abbrev b : Row
   b = given q m d
 
-  pub rise-test : (equal (n *ℤ q) (m *ℤ p) ≡ true) ↔ (rise (turn a) (spanOf (turn a) (turn b)) ≡ rise (turn b) (spanOf (turn a) (turn b)))
+  rise-test : (equal (n *ℤ q) (m *ℤ p) ≡ true) ↔ (rise (turn a) (spanOf (turn a) (turn b)) ≡ rise (turn b) (spanOf (turn a) (turn b)))
   rise-test =
       let na = numbers p n c sa in
       let nb = numbers q m d sb in
@@ -84,13 +99,20 @@ module _ (p n q m : ℤ) (c d : List ℤ) (sa : Sound p n c) (sb : Sound q m d) 
         λ e. equal-iff (n *ℤ q) (m *ℤ p) .1 (x ∙ ap pos (r .0 e) ∙ sym y),
       )
 
-  unlike : equal (n *ℤ q) (m *ℤ p) ≡ false → riseAlike a b ≡ false
-  unlike e =
+  -- labels that rise apart
+  apart : equal (n *ℤ q) (m *ℤ p) ≡ false → riseAlike a b ≡ false
+  apart e =
       let S = spanOf (turn a) (turn b) in
       false-iff (eqb-iff (rise (turn a) S) (rise (turn b) S)) .1 (false-iff rise-test .0 e)
 
-  pub unlike-subcalendar : equal (n *ℤ q) (m *ℤ p) ≡ false → alignedAs subcalendar a b ≡ false
-  unlike-subcalendar e = ap (λ (z : Bool). z && everywhere a b (isSubcalendar a b)) (unlike e)
+  pub unlike : (k : Alignment) → asksRise k ≡ true → equal (n *ℤ q) (m *ℤ p) ≡ false → alignedAs k a b ≡ false
+  unlike free h e = absurd (true≢false h refl)
+  unlike partition h e = absurd (true≢false h refl)
+  unlike subcalendar h e = ap (λ (z : Bool). z && everywhere a b (isSubcalendar a b)) (apart e)
+  unlike compatible h e = ap (λ (z : Bool). z && everywhere a b (agrees a b)) (apart e)
 
-  pub unlike-compatible : equal (n *ℤ q) (m *ℤ p) ≡ false → alignedAs compatible a b ≡ false
-  unlike-compatible e = ap (λ (z : Bool). z && everywhere a b (agrees a b)) (unlike e)
+  pub alike : (k : Alignment) → equal (n *ℤ q) (m *ℤ p) ≡ true → RiseAlike k a b
+  alike free e = tt
+  alike partition e = tt
+  alike subcalendar e = rise-test .0 e
+  alike compatible e = rise-test .0 e

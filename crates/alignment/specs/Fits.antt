@@ -7,7 +7,7 @@ use Rattle.calendar.specs.Operation as Operation
 use Rattle.calendar.specs.Operation.Alignment.{free, partition, subcalendar, compatible}
 use Rattle.calendar.specs.Lists.{equal, is, isSome, sameLabel, ifLabel}
 use Rattle.alignment.specs.declared.Alignment.{Alignment}
-use Rattle.alignment.specs.declared.Alignment.the-variants.{Partition, Subcalendar, Compatible}
+use Rattle.alignment.specs.declared.Alignment.the-variants.{Free, Partition, Subcalendar, Compatible}
 
 -- the same instants are labelled, and a's label is another or b's is the same too
 abbrev pub fitsPartition : Option ℤ → Option ℤ → Option ℤ → Option ℤ → Bool
@@ -37,6 +37,7 @@ fits compatible o p x y = fitsCompatible o p x y
 
 -- the code's name of an alignment
 abbrev pub alignmentOf : Alignment → Operation.Alignment
+alignmentOf Free = free
 alignmentOf Partition = partition
 alignmentOf Subcalendar = subcalendar
 alignmentOf Compatible = compatible

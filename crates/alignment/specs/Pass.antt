@@ -1,6 +1,7 @@
 -- The rows of a pass, and where it starts.
 use mathlib.Core.Path.{_≡_}
 use mathlib.Core.Option.{some}
+use mathlib.Core.Bool.{Bool, true, false}
 use lib.IntN.{ℤ, pos}
 use lib.Signed.{_≤ℤ_, _<ℤ_}
 use Rattle.calendar.specs.Limits.{poolLimit}
@@ -14,7 +15,21 @@ pub record Spanned (a b : Row) (span : ℤ) : Type 0 where
   pub is-span : span ≡ pos (spanOf (turn a) (turn b))
   pub at-most : span ≤ℤ pos poolLimit
 
--- over it a's labels rise as far as b's, where the alignment asks that
+-- whether an alignment asks nothing
+abbrev pub isFree : Alignment → Bool
+isFree free = true
+isFree partition = false
+isFree subcalendar = false
+isFree compatible = false
+
+-- whether an alignment asks that a's labels rise as far as b's
+abbrev pub asksRise : Alignment → Bool
+asksRise free = false
+asksRise partition = false
+asksRise subcalendar = true
+asksRise compatible = true
+
+-- over the span they do, where the alignment asks that
 abbrev pub RiseAlike : Alignment → Row → Row → Type 0
 RiseAlike free a b = Unit {0}
 RiseAlike partition a b = Unit {0}

@@ -75,12 +75,10 @@ fn fits_subcalendar(o: Found, p: Found, x: Found, y: Found) -> bool
 fn agree(x: Found, y: Found) -> bool
     ensures { λ r. ⌜ r ≡ Fits.agree (found x) (found y) ⌝ }
 {
-    match x {
-        Found::At(i) => match y {
-            Found::At(j) => i == j,
-            Found::Nothing => true,
-        },
-        Found::Nothing => true,
+    if labelled(x) {
+        if labelled(y) { same(x, y) } else { true }
+    } else {
+        true
     }
 }
 
@@ -123,6 +121,7 @@ pub fn fits(k: Alignment, o: Found, p: Found, x: Found, y: Found) -> bool
     ensures { λ r. ⌜ r ≡ Fits.fits (alignmentOf k) (found o) (found p) (found x) (found y) ⌝ }
 {
     match k {
+        Alignment::Free => true,
         Alignment::Partition => fits_partition(o, p, x, y),
         Alignment::Subcalendar => fits_subcalendar(o, p, x, y),
         Alignment::Compatible => fits_compatible(o, p, x, y),

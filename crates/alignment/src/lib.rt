@@ -1,23 +1,25 @@
 // Check 9, how two operands lie to each other, in one pass over their span.
 
 ghost use mathlib.Core.Path.{_≡_};
+ghost use mathlib.Core.Bool.{true};
 ghost use lib.IntN.{_*ℤ_};
-ghost use Rattle.calendar.specs.Operation.Alignment.{partition, subcalendar, compatible};
+ghost use Rattle.calendar.specs.Operation.Alignment.{partition};
 ghost use Rattle.calendar.specs.Lists.{equal};
 ghost use Rattle.calendar.specs.Checks.{alignedAs};
 ghost use Rattle.calendar.specs.Questions.{given};
 ghost use Rattle.cursors.specs.Found.{found, Sound};
 ghost use Rattle.alignment.specs.Codes.{codeOf, codedLabel};
 ghost use Rattle.alignment.specs.Fits.{alignmentOf};
-ghost use Rattle.alignment.specs.Pass.{Spanned, RiseAlike, Starts, Limited};
+ghost use Rattle.alignment.specs.Pass.{Spanned, isFree, asksRise, RiseAlike, Starts, Limited};
 use cursors::Found;
 use row_check::scan;
 
 mod changing;
 mod comparing;
 
-// How a and b may have to lie to each other: as alter asks, as anchor asks, as the set operations ask.
-enum Alignment {
+// How a and b may have to lie to each other: in any way, as alter asks, as anchor asks, as the set operations ask.
+pub enum Alignment {
+    Free,
     Partition,
     Subcalendar,
     Compatible,
@@ -57,7 +59,7 @@ fn labelled_instant(cells: &[i32], period: i64, distance: i64) -> i64
 
 // Whether a and b are aligned: each labelled instant of a span fits the one before, from a labelled one, which fits itself, up to the same
 // a span later.
-fn aligned(
+fn pass(
     k: Alignment,
     a_cells: &[i32],
     a_period: i64,
@@ -127,7 +129,7 @@ pub fn partitions(
             );
         }
     }
-    aligned(
+    pass(
         Alignment::Partition,
         a_cells,
         a_period,
@@ -150,8 +152,33 @@ fn rise_alike(a_period: i64, a_distance: i64, b_period: i64, b_distance: i64) ->
     a == b
 }
 
-// Whether each granule of b is the granule of a with that label, as anchor asks.
-pub fn is_subcalendar(
+// Whether an alignment asks nothing.
+fn is_free(k: Alignment) -> bool
+    ensures { λ r. ⌜ r ≡ isFree (alignmentOf k) ⌝ }
+{
+    match k {
+        Alignment::Free => true,
+        Alignment::Partition => false,
+        Alignment::Subcalendar => false,
+        Alignment::Compatible => false,
+    }
+}
+
+// Whether an alignment asks that the labels of a and b rise alike.
+fn asks_rise(k: Alignment) -> bool
+    ensures { λ r. ⌜ r ≡ asksRise (alignmentOf k) ⌝ }
+{
+    match k {
+        Alignment::Free => false,
+        Alignment::Partition => false,
+        Alignment::Subcalendar => true,
+        Alignment::Compatible => true,
+    }
+}
+
+// Whether a and b are aligned, as an alignment asks that asks this: that is looked at first.
+fn aligned_alike(
+    k: Alignment,
     a_cells: &[i32],
     a_period: i64,
     a_distance: i64,
@@ -163,13 +190,14 @@ pub fn is_subcalendar(
     requires { ⌜ Sound «a_period» «a_distance» (now «a_cells») ⌝ }
     requires { ⌜ Sound «b_period» «b_distance» (now «b_cells») ⌝ }
     requires { ⌜ Spanned (given «a_period» «a_distance» (now «a_cells»)) (given «b_period» «b_distance» (now «b_cells»)) span ⌝ }
-    ensures { λ r. ⌜ r ≡ alignedAs subcalendar (given «a_period» «a_distance» (now («a_cells» .entry))) (given «b_period» «b_distance» (now («b_cells» .entry))) ⌝ }
+    requires { ⌜ asksRise (alignmentOf k) ≡ true ⌝ }
+    ensures { λ r. ⌜ r ≡ alignedAs (alignmentOf k) (given «a_period» «a_distance» (now («a_cells» .entry))) (given «b_period» «b_distance» (now («b_cells» .entry))) ⌝ }
 {
     if !rise_alike(a_period, a_distance, b_period, b_distance) {
         return false;
     }
-    aligned(
-        Alignment::Subcalendar,
+    pass(
+        k,
         a_cells,
         a_period,
         a_distance,
@@ -180,27 +208,38 @@ pub fn is_subcalendar(
     )
 }
 
-// Whether a shared label has the same instants in both, no instant has two different labels, and all labels of both together never
-// fall, as the set operations ask.
-pub fn compatible(
+// Check 9: whether a and b lie to each other as the alignment asks.
+pub fn aligned(
+    k: Alignment,
+    span: i64,
     a_cells: &[i32],
     a_period: i64,
     a_distance: i64,
     b_cells: &[i32],
     b_period: i64,
     b_distance: i64,
-    span: i64,
 ) -> bool
     requires { ⌜ Sound «a_period» «a_distance» (now «a_cells») ⌝ }
     requires { ⌜ Sound «b_period» «b_distance» (now «b_cells») ⌝ }
     requires { ⌜ Spanned (given «a_period» «a_distance» (now «a_cells»)) (given «b_period» «b_distance» (now «b_cells»)) span ⌝ }
-    ensures { λ r. ⌜ r ≡ alignedAs compatible (given «a_period» «a_distance» (now («a_cells» .entry))) (given «b_period» «b_distance» (now («b_cells» .entry))) ⌝ }
+    ensures { λ r. ⌜ r ≡ alignedAs (alignmentOf k) (given «a_period» «a_distance» (now («a_cells» .entry))) (given «b_period» «b_distance» (now («b_cells» .entry))) ⌝ }
 {
-    if !rise_alike(a_period, a_distance, b_period, b_distance) {
-        return false;
+    if is_free(k) {
+        return true;
     }
-    aligned(
-        Alignment::Compatible,
+    if asks_rise(k) {
+        return aligned_alike(
+            k,
+            a_cells,
+            a_period,
+            a_distance,
+            b_cells,
+            b_period,
+            b_distance,
+            span,
+        );
+    }
+    partitions(
         a_cells,
         a_period,
         a_distance,

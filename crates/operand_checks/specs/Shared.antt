@@ -8,7 +8,6 @@ use Rattle.integers.specs.Parts.{up}
 use Rattle.integers.specs.Gcd.{gcd}
 use Rattle.calendar.specs.Meaning.{Row}
 use Rattle.calendar.specs.Operation as O
-use Rattle.calendar.specs.Operation.Alignment.{free, subcalendar, compatible}
 use Rattle.calendar.specs.Size as Size
 use Rattle.calendar.specs.Size.{turn, spanOf, rise}
 use Rattle.calendar.specs.Distance.{size}
@@ -17,10 +16,9 @@ use Rattle.calendar.specs.Limits.{poolLimit}
 use Rattle.calendar.specs.Reply.{Reply, require}
 use Rattle.calendar.specs.Reply.Reply.{answer}
 use Rattle.sizes.specs.declared.Turn.{Turn}
+pub use Rattle.alignment.specs.Fits.{alignmentOf}
 use Rattle.operand_checks.specs.Admission.{extent}
 use Rattle.operand_checks.specs.declared.Extent.{Extent}
-use Rattle.operand_checks.specs.declared.spanning.Alignment.{Alignment}
-use Rattle.operand_checks.specs.declared.spanning.Alignment.the-variants.{Free, Subcalendar, Compatible}
 
 -- what is left of a pool
 abbrev pub IsRoom : ℤ → Type 0
@@ -29,12 +27,6 @@ IsRoom room = (pos 0 ≤ℤ room) × (room ≤ℤ pos poolLimit)
 -- the turn of a row as `sizes` takes it
 abbrev pub turnFor : ℤ → ℤ → Turn
 turnFor period distance = record { period = up period; distance = up distance }
-
--- the code's name of an alignment
-abbrev pub alignmentOf : Alignment → O.Alignment
-alignmentOf Free = free
-alignmentOf Subcalendar = subcalendar
-alignmentOf Compatible = compatible
 
 -- "8 for the working period"
 abbrev pub fitted : Extent → ℕ → Reply Extent

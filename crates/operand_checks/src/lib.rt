@@ -11,9 +11,9 @@ ghost use Rattle.cursors.specs.Found.{Sound};
 ghost use Rattle.kinds.specs.Operations.{operationOf, operands, Numbers, SoundFirst};
 ghost use Rattle.operand_checks.specs.Admission.{admission, checkedOf};
 ghost use Rattle.operand_checks.specs.Shared.{IsRoom, wholeTurn, fitted};
+use alignment::Alignment;
 use calendar::Refusal;
 use kinds::Kind;
-use spanning::Alignment;
 
 mod altered;
 mod grouping;

@@ -8,7 +8,6 @@ ghost use Rattle.integers.specs.Capped.{cappedAt};
 ghost use Rattle.calendar.specs.Operation as O;
 ghost use Rattle.calendar.specs.Operation.Operation.{binary};
 ghost use Rattle.calendar.specs.Size.{spanOf};
-ghost use Rattle.calendar.specs.Checks.{alignedAs};
 ghost use Rattle.calendar.specs.Limits.{poolLimit};
 ghost use Rattle.calendar.specs.Questions.{given};
 ghost use Rattle.sizes.specs.Stored.{turnOf};
@@ -19,16 +18,10 @@ ghost use Rattle.operand_checks.specs.Shared as Shared;
 ghost use Rattle.operand_checks.specs.Shared.{IsRoom, turnFor, alignmentOf, overSpan};
 use super::Checked;
 use super::Extent;
+use alignment::Alignment;
 use calendar::Refusal;
 use integers::Capped;
 use sizes::Turn;
-
-// How two operands must lie to each other.
-pub enum Alignment {
-    Free,
-    Subcalendar,
-    Compatible,
-}
 
 // The turn of a row.
 pub fn turn_of(period: i64, distance: i64) -> Turn
@@ -68,45 +61,6 @@ fn over_span(span: i64, period: i64, distance: i64) -> Extent
     }
 }
 
-// Check 9.
-fn aligned(
-    k: Alignment,
-    span: i64,
-    a_cells: &[i32],
-    a_period: i64,
-    a_distance: i64,
-    b_cells: &[i32],
-    b_period: i64,
-    b_distance: i64,
-) -> bool
-    requires { ⌜ Sound «a_period» «a_distance» (now «a_cells») ⌝ }
-    requires { ⌜ Sound «b_period» «b_distance» (now «b_cells») ⌝ }
-    requires { ⌜ Spanned (given «a_period» «a_distance» (now «a_cells»)) (given «b_period» «b_distance» (now «b_cells»)) span ⌝ }
-    ensures { λ r. ⌜ r ≡ alignedAs (alignmentOf k) (given «a_period» «a_distance» (now («a_cells» .entry))) (given «b_period» «b_distance» (now («b_cells» .entry))) ⌝ }
-{
-    match k {
-        Alignment::Free => true,
-        Alignment::Subcalendar => alignment::is_subcalendar(
-            a_cells,
-            a_period,
-            a_distance,
-            b_cells,
-            b_period,
-            b_distance,
-            span,
-        ),
-        Alignment::Compatible => alignment::compatible(
-            a_cells,
-            a_period,
-            a_distance,
-            b_cells,
-            b_period,
-            b_distance,
-            span,
-        ),
-    }
-}
-
 // 8 for the span and 9, where the working period is the span.
 pub fn spanned(
     k: Alignment,
@@ -128,7 +82,7 @@ pub fn spanned(
         return Checked::Refused(Refusal::TooLong.number());
     };
     let span = s as i64;
-    if aligned(
+    if alignment::aligned(
         k,
         span,
         a_cells,

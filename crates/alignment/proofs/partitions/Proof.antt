@@ -45,8 +45,8 @@ returns c =
     let m = s .fits .b-distance in
     simp plain at (c .changes-with .ensures)
 
-aligned-requires : tie.Need-aligned-requires
-aligned-requires c κs =
+pass-requires : tie.Need-pass-requires
+pass-requires c κs =
     let h = as-read (c .before .before) in
     (h .0, (h .1, (h .2, tt)))
 
@@ -57,9 +57,9 @@ returns-2 c =
     let n = s .fits .a-distance in
     let q = s .fits .b-period in
     let m = s .fits .b-distance in
-    simp plain at (c .aligned .ensures)
+    simp plain at (c .pass .ensures)
 
 pub partitions-spec : {M : Type 1} → statement M
 partitions-spec =
     tie.close
-    (tie.spec is-whole-requires is-whole-requires-2 changes-with-requires returns aligned-requires returns-2)
+    (tie.spec is-whole-requires is-whole-requires-2 changes-with-requires returns pass-requires returns-2)

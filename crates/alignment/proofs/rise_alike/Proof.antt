@@ -1,8 +1,9 @@
 -- `alignment::rise_alike` meets its contract: the products do not wrap, and are compared by their bits.
 -- Assumes nothing.
 use mathlib.Core.Path.{_∙_}
+use mir.Syntax.{w64}
 use Rattle.integers.proofs.Machine.{plain}
-use Rattle.alignment.proofs.Choices.{bits-test}
+use Rattle.granules.proofs.Tests.{bits-equal}
 use Rattle.alignment.proofs.Rising.{product-fits}
 use Rattle.alignment.proofs.rise_alike.Statement.{statement}
 use Rattle.alignment.proofs.rise_alike.Tie as tie
@@ -25,7 +26,7 @@ returns s =
     let n = s .fits .a-distance in
     let q = s .fits .b-period in
     let m = s .fits .b-distance in
-    let e = bits-test _ _ (mul-a s) (mul-b s) in
+    let e = bits-equal w64 _ _ (mul-a s) (mul-b s) in
     e ∙ simp plain
 
 pub rise-alike-spec : {M : Type 1} → statement M

@@ -1,37 +1,38 @@
--- `alignment::comparing::agree` meets its contract: labels are compared by their bits.
+-- `alignment::comparing::agree` meets its contract.
 -- Assumes nothing.
-use mathlib.Core.Path.{sym, _∙_, ap, ap₂}
+use mathlib.Core.Path.{sym, _∙_}
 use Rattle.cursors.specs.Found.{found}
-use Rattle.alignment.specs.Fits.{agree}
-use Rattle.alignment.proofs.Choices.{bits-test}
-use borrow.Author.Needs.{needs, sfits-of}
+use Rattle.alignment.proofs.Choices.{outcome, agree-both, agree-first, agree-second}
+use borrow.Author.Needs.{needs}
 use Rattle.alignment.proofs.comparing.agree.Statement.{statement}
 use Rattle.alignment.proofs.comparing.agree.Tie as tie
 
-enum-known-x : tie.Need-enum-known-x
-enum-known-x c = search needs
+labelled-requires : tie.Need-labelled-requires
+labelled-requires c κs = search needs
 
-enum-known-y : tie.Need-enum-known-y
-enum-known-y c = search needs
+labelled-requires-2 : tie.Need-labelled-requires-2
+labelled-requires-2 c κs = search needs
 
-enum-told : tie.Need-enum-told
-enum-told c = search needs
-
-enum-told-2 : tie.Need-enum-told-2
-enum-told-2 c = search needs
+same-requires : tie.Need-same-requires
+same-requires c κs = search needs
 
 returns : tie.Need-returns
 returns c =
-    bits-test (c .before .before .before .before .x .given .0 .0) (c .before .y .given .0 .0) (sfits-of (c .before .before .before .known-told .given .0 .1)) (sfits-of (c .known-told2 .given .0 .1))
-    ∙ ap₂ agree (ap found (sym (c .before .before .before .before .x .given .1))) (ap found (sym (c .before .y .given .1)))
+    let s = c .before .before .before .before .before .args in
+    c .same .ensures
+    ∙ sym (agree-both (found (s .x)) (found (s .y))
+    (outcome (c .before .before .before .before .labelled .ensures) (c .before .before .before .if1 .taken))
+    (outcome (c .before .before .labelled2 .ensures) (c .before .if2 .taken)))
 
 returns-2 : tie.Need-returns-2
-returns-2 c = search needs
+returns-2 c =
+    let s = c .before .before .before .before .args in
+    sym (agree-second (found (s .x)) (found (s .y)) (outcome (c .before .labelled2 .ensures) (c .if2 .left)))
 
 returns-3 : tie.Need-returns-3
-returns-3 c = search needs
+returns-3 c = let s = c .before .before .args in sym (agree-first (found (s .x)) (found (s .y)) (outcome (c .before .labelled .ensures) (c .if1 .left)))
 
 pub agree-spec : {M : Type 1} → statement M
 agree-spec =
     tie.close
-    (tie.spec enum-known-x enum-known-y enum-told enum-told-2 returns returns-2 returns-3)
+    (tie.spec labelled-requires labelled-requires-2 same-requires returns returns-2 returns-3)

@@ -1,9 +1,10 @@
 -- `alignment::comparing::same` meets its contract: labels are compared by their bits.
 -- Assumes nothing.
 use mathlib.Core.Path.{sym, _∙_, ap, ap₂}
+use mir.Syntax.{w64}
 use Rattle.calendar.specs.Lists.{sameLabel}
+use Rattle.granules.proofs.Tests.{bits-equal}
 use Rattle.cursors.specs.Found.{found}
-use Rattle.alignment.proofs.Choices.{bits-test}
 use borrow.Author.Needs.{needs, sfits-of}
 use Rattle.alignment.proofs.comparing.same.Statement.{statement}
 use Rattle.alignment.proofs.comparing.same.Tie as tie
@@ -25,7 +26,7 @@ labelled-requires c κs = search needs
 
 returns : tie.Need-returns
 returns c =
-    bits-test (c .before .before .before .before .x .given .0 .0) (c .before .y .given .0 .0) (sfits-of (c .before .before .before .known-told .given .0 .1)) (sfits-of (c .known-told2 .given .0 .1))
+    bits-equal w64 (c .before .before .before .before .x .given .0 .0) (c .before .y .given .0 .0) (sfits-of (c .before .before .before .known-told .given .0 .1)) (sfits-of (c .known-told2 .given .0 .1))
     ∙ ap₂ sameLabel (ap found (sym (c .before .before .before .before .x .given .1))) (ap found (sym (c .before .y .given .1)))
 
 returns-2 : tie.Need-returns-2

@@ -1,4 +1,4 @@
--- `alignment::compatible` meets its contract: rows whose labels rise apart are not aligned.
+-- `alignment::aligned_alike` meets its contract: rows whose labels rise apart are not aligned.
 -- Assumes nothing.
 use mathlib.Core.Path.{_≡_, sym}
 use lib.IntN.{_*ℤ_}
@@ -6,10 +6,11 @@ use Rattle.integers.proofs.Machine.{plain}
 use Rattle.calendar.specs.Lists.{equal}
 use Rattle.granules.proofs.Tests.{not-iff}
 use borrow.Author.Tests.{not-false}
+use Rattle.alignment.specs.Fits.{alignmentOf}
 use Rattle.alignment.proofs.Choices.{outcome}
-use Rattle.alignment.proofs.Rising.{limited, rise-test, unlike-compatible}
-use Rattle.alignment.proofs.compatible.Statement.{statement}
-use Rattle.alignment.proofs.compatible.Tie as tie
+use Rattle.alignment.proofs.Rising.{limited, unlike, alike}
+use Rattle.alignment.proofs.aligned_alike.Statement.{statement}
+use Rattle.alignment.proofs.aligned_alike.Tie as tie
 
 rise-alike-requires : tie.Need-rise-alike-requires
 rise-alike-requires s κs =
@@ -33,11 +34,11 @@ returns : tie.Need-returns
 returns c =
     let s = c .before .before in
     let a = s .args in
-    sym (unlike-compatible (a .a-period) (a .a-distance) (a .b-period) (a .b-distance) (a .a-cells .now) (a .b-cells .now) (s .pre .0) (s .pre .1 .0)
-    (outcome (rising (c .before)) (not-iff (c .before .rise-alike .result) .0 (c .if1 .taken))))
+    sym (unlike (a .a-period) (a .a-distance) (a .b-period) (a .b-distance) (a .a-cells .now) (a .b-cells .now) (s .pre .0) (s .pre .1 .0)
+    (alignmentOf (a .k)) (s .pre .1 .1 .1) (outcome (rising (c .before)) (not-iff (c .before .rise-alike .result) .0 (c .if1 .taken))))
 
-aligned-requires : tie.Need-aligned-requires
-aligned-requires c κs =
+pass-requires : tie.Need-pass-requires
+pass-requires c κs =
     let s = c .before .before in
     let a = s .args in
     let p = s .fits .a-period in
@@ -45,10 +46,10 @@ aligned-requires c κs =
     let q = s .fits .b-period in
     let m = s .fits .b-distance in
     let t = s .fits .span in
-    let alike =
-    rise-test (a .a-period) (a .a-distance) (a .b-period) (a .b-distance) (a .a-cells .now) (a .b-cells .now) (s .pre .0) (s .pre .1 .0) .0
+    let rises =
+    alike (a .a-period) (a .a-distance) (a .b-period) (a .b-distance) (a .a-cells .now) (a .b-cells .now) (s .pre .0) (s .pre .1 .0) (alignmentOf (a .k))
     (outcome (rising (c .before)) (not-false (c .before .rise-alike .result) (c .if1 .left))) in
-    simp plain (s .pre .0, (s .pre .1 .0, (s .pre .1 .1, alike)))
+    simp plain (s .pre .0, (s .pre .1 .0, (s .pre .1 .1 .0, rises)))
 
 returns-2 : tie.Need-returns-2
 returns-2 c =
@@ -57,7 +58,7 @@ returns-2 c =
     let n = s .fits .a-distance in
     let q = s .fits .b-period in
     let m = s .fits .b-distance in
-    simp plain at (c .aligned .ensures)
+    simp plain at (c .pass .ensures)
 
-pub compatible-spec : {M : Type 1} → statement M
-compatible-spec = tie.close (tie.spec rise-alike-requires returns aligned-requires returns-2)
+pub aligned-alike-spec : {M : Type 1} → statement M
+aligned-alike-spec = tie.close (tie.spec rise-alike-requires returns pass-requires returns-2)

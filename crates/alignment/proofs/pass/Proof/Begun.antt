@@ -1,4 +1,4 @@
--- Before the loop of `alignment::aligned`: its invariant, and that it holds there.
+-- Before the loop of `alignment::pass`: its invariant, and that it holds there.
 -- Assumes nothing.
 use borrow.Author.Needs.{sfits-of}
 use mathlib.Core.Path.{_≡_, sym, _∙_, ap, subst}
@@ -25,7 +25,7 @@ use Rattle.alignment.specs.Fits.{alignmentOf}
 use Rattle.alignment.specs.Pass.{Starts, Spanned, RiseAlike}
 use Rattle.alignment.proofs.Looks.{Looks, look-first}
 use Rattle.alignment.proofs.Codes.{read-back}
-use Rattle.alignment.proofs.aligned.Tie as tie
+use Rattle.alignment.proofs.pass.Tie as tie
 
 abbrev pub Inv-loop : tie.InvT-loop
 Inv-loop k a-cells a-period a-distance b-cells b-period b-distance span t₀ end a₀ b₀ o₀ p₀ t a b o p =

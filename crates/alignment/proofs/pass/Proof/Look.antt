@@ -1,4 +1,4 @@
--- A turn of the loop of `alignment::aligned`: the look at an instant, its labels, whether they fit, and that it is passed.
+-- A turn of the loop of `alignment::pass`: the look at an instant, its labels, whether they fit, and that it is passed.
 -- Assumes nothing.
 use borrow.Author.Needs.{sfits-of}
 use mathlib.Core.Path.{_≡_, sym, _∙_, ap, ap₂}
@@ -22,8 +22,8 @@ use Rattle.alignment.specs.Fits.{fits}
 use Rattle.alignment.proofs.Choices.{outcome}
 use Rattle.alignment.proofs.Passes.{Passed, labelled-of, unlabelled-of}
 use Rattle.alignment.proofs.Looks.{look-over, look-to, look-fails}
-use Rattle.alignment.proofs.aligned.Proof.Begun.{Inv-loop, μ-loop, Start, a-row, b-row, S, kind, a-sound, b-sound, spanned, alike, a-rules, b-rules, Begun, from, below, add-end, a-read, b-read}
-use Rattle.alignment.proofs.aligned.Tie as tie
+use Rattle.alignment.proofs.pass.Proof.Begun.{Inv-loop, μ-loop, Start, a-row, b-row, S, kind, a-sound, b-sound, spanned, alike, a-rules, b-rules, Begun, from, below, add-end, a-read, b-read}
+use Rattle.alignment.proofs.pass.Tie as tie
 
 abbrev pub At : Type 0
 At = tie.At-loop Inv-loop μ-loop
