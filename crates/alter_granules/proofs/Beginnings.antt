@@ -21,11 +21,11 @@ use Rattle.algebra.proofs.Fine.{Partitioned, low, low-spans}
 use Rattle.strides.specs.declared.Change.{Change}
 use Rattle.strides.specs.Changes.{Changes}
 use Rattle.alter_granules.specs.declared.coarse.Begin.{Begin}
-use Rattle.alter_granules.specs.Begins.{at, Begins}
+use Rattle.alter_granules.specs.CoarseBegins.{at, CoarseBegins}
 
 -- the next beginning
 pub record Next (a b : Row) (c r : Begin) : Type 0 where
-  pub begins : Begins a b r
+  pub begins : CoarseBegins a b r
   pub of : r .i ≡ c .i +ℤ pos 1
   pub behind : at b c <ℤ at b r
   pub near : at b r ≤ℤ (at b c +ℤ pos (b .period))
@@ -43,7 +43,7 @@ module _ (a b : Row) (known : Partitioned a b) where
       (m .2 ∴ some-inj (sym (m .1) ∙ av) ∴ simp ints (omega arith))
 
   pub begins-at : (c : Begin) (v : ℤ) → c .a ≡ cursorAt a v → c .b ≡ cursorAt b v → meant a v ≡ some (c .p) → meant b v ≡ some (c .i)
-      → ((u : ℤ) → meant b u ≡ some (c .i) → v ≤ℤ u) → Begins a b c
+      → ((u : ℤ) → meant b u ≡ some (c .i) → v ≤ℤ u) → CoarseBegins a b c
   begins-at c v ca cb la lb least =
       let e = sym (instant-is b (known .valid .1) (c .b) v cb) in
       record {
@@ -55,7 +55,7 @@ module _ (a b : Row) (known : Partitioned a b) where
       }
 
   -- the next instant with another label of b is where the next granule begins
-  module _ (c r : Begin) (begun : Begins a b c) (x : Change) (change : Changes b (at b c) x) (to-a : r .a ≡ cursorAt a (at b c +ℤ x .steps)) (to-b : r .b ≡ x .cursor)
+  module _ (c r : Begin) (begun : CoarseBegins a b c) (x : Change) (change : Changes b (at b c) x) (to-a : r .a ≡ cursorAt a (at b c +ℤ x .steps)) (to-b : r .b ≡ x .cursor)
       (la : meant a (at b c +ℤ x .steps) ≡ some (r .p)) (lb : meant b (at b c +ℤ x .steps) ≡ some (r .i)) where
     place : at b r ≡ at b c +ℤ x .steps
     place = instant-is b (known .valid .1) (r .b) (at b c +ℤ x .steps) (to-b ∙ change .cursor)

@@ -24,9 +24,9 @@ use Rattle.kinds.specs.declared.Alteration.{Alteration}
 use Rattle.alter_granules.specs.declared.Repeat.{Repeat}
 use Rattle.alter_granules.specs.declared.Altered.{Altered}
 use Rattle.alter_granules.specs.declared.ahead.Walk.{Walk}
-use Rattle.alter_granules.specs.declared.behind.Place.{Place}
+use Rattle.alter_granules.specs.declared.behind.Instant.{Instant}
 use Rattle.alter_granules.specs.Given.{altering, Alterable, Written}
-use Rattle.alter_granules.specs.Follows.{begins, Holds, Walks, Starts, Seeks, Follows}
+use Rattle.alter_granules.specs.Follows.{begins, Holds, CoarseWalk, Starts, Seeks, Follows}
 use Rattle.alter_granules.proofs.Tiled.{coarse-low, fine-low, altered-iff, holds-turn, holds-some}
 
 -- what holds before an instant holds before the later ones
@@ -76,7 +76,7 @@ module _ (by : Alteration) (repeat : Repeat) (a b : Row) (g : Alterable by repea
     pub reaches : begins by a b (s .walk .label) ≤ℤ j
     reaches = f .reached (pos t) j (simp ints (omega arith)) e
 
-    pub follows-walk : (w : Walk) → Walks by a b w → Holds by a b j (w .label) → w .end ≡ s .walk .end → Follows by repeat a b t (record { walk = w; behind = s .behind })
+    pub follows-walk : (w : Walk) → CoarseWalk by a b w → Holds by a b j (w .label) → w .end ≡ s .walk .end → Follows by repeat a b t (record { walk = w; behind = s .behind })
     follows-walk w k h d = record {
       walk = k;
       reached = λ u i l m. h .0 ∴ later u i l m ∴ simp ints (omega arith);
@@ -94,7 +94,7 @@ module _ (by : Alteration) (repeat : Repeat) (a b : Row) (g : Alterable by repea
           before v l (inl h) = h
           before v l (inr h) = absurd (later v (j -ℤ repeat .fine) (h ∴ simp ints (omega arith)) l ∴ turn-low ∴ simp ints (omega arith))
 
-      module _ (p : Place) (c : p .cursor ≡ cursorAt a (pos (p .index))) (l : meant a (pos (p .index)) ≡ some (j -ℤ repeat .fine)) where
+      module _ (p : Instant) (c : p .cursor ≡ cursorAt a (pos (p .index))) (l : meant a (pos (p .index)) ≡ some (j -ℤ repeat .fine)) where
         pub place-behind : p .index < t
         place-behind = go (le-or-lt (pos t) (pos (p .index)))
           where

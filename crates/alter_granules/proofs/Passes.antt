@@ -23,14 +23,14 @@ use Rattle.cursors.proofs.Bounds.{label-bound}
 use Rattle.algebra.proofs.Fine.{Partitioned, low, high, low-next}
 use Rattle.kinds.specs.declared.Alteration.{Alteration}
 use Rattle.alter_granules.specs.declared.coarse.Begin.{Begin}
-use Rattle.alter_granules.specs.Begins.{at, Begins}
+use Rattle.alter_granules.specs.CoarseBegins.{at, CoarseBegins}
 use Rattle.alter_granules.specs.Short.{shortBy, short}
 use Rattle.alter_granules.proofs.Beginnings.{Next}
 use Rattle.alter_granules.proofs.Shortness.{short-is}
 
 -- the pass stands where c begins, the n-th granule behind the start, and those that it passed are not short
 pub record Passed (by : Alteration) (a b : Row) (g : ℕ) (count : ℤ) (start c : Begin) (n : ℤ) : Type 0 where
-  pub begins : Begins a b c
+  pub begins : CoarseBegins a b c
   pub of : c .i ≡ start .i +ℤ n
   pub low : pos 0 ≤ℤ n
   pub high : n ≤ℤ count
@@ -39,7 +39,7 @@ pub record Passed (by : Alteration) (a b : Row) (g : ℕ) (count : ℤ) (start c
   pub long : (u : ℤ) → start .i ≤ℤ u → u <ℤ c .i → short by a b g u ≡ false
 
 module _ (by : Alteration) (a b : Row) (known : Partitioned a b) (g : ℕ) (count : ℤ) (start : Begin) where
-  pub passed-start : Begins a b start → pos 0 ≤ℤ count → Passed by a b g count start start (pos 0)
+  pub passed-start : CoarseBegins a b start → pos 0 ≤ℤ count → Passed by a b g count start start (pos 0)
   passed-start h l = record {
     begins = h;
     of = simp ints (omega arith);

@@ -15,10 +15,10 @@ use Rattle.calendar.specs.Limits.{poolLimit}
 use Rattle.granules.specs.Valid.{Valid}
 use Rattle.granules.proofs.Tests.{true≢false, leZ-iff}
 use Rattle.cursors.specs.Cursor.{cursorAt}
-use Rattle.alter_granules.specs.declared.behind.Place.{Place}
+use Rattle.alter_granules.specs.declared.behind.Instant.{Instant}
 use Rattle.alter_granules.specs.Follows.{atLeast, Seeks}
 
-module _ (r : Row) (v : Valid r) (j : ℤ) (p : Place) (s : Seeks r p j) where
+module _ (r : Row) (v : Valid r) (j : ℤ) (p : Instant) (s : Seeks r p j) where
   -- where it is, the label is j: labels never fall, and j is ahead
   pub seek-ends : atLeast j (meant r (pos (p .index))) ≡ true → meant r (pos (p .index)) ≡ some j
   seek-ends e = go (meant r (pos (p .index))) refl e
@@ -36,7 +36,7 @@ module _ (r : Row) (v : Valid r) (j : ℤ) (p : Place) (s : Seeks r p j) where
       go (equal h) = absurd (true≢false (leZ-iff j j .1 (simp ints (omega arith))) (sym (ap (atLeast j) (ap (meant r) h ∙ s .label)) ∙ e))
       go (above h) = absurd (h ∴ s .ahead ∴ simp ints (omega arith))
 
-  pub seek-past : (q : Place) → q .index ≡ p .index + 1 → q .cursor ≡ cursorAt r (pos (p .index) +ℤ pos 1) → atLeast j (meant r (pos (p .index))) ≡ false → Seeks r q j
+  pub seek-past : (q : Instant) → q .index ≡ p .index + 1 → q .cursor ≡ cursorAt r (pos (p .index) +ℤ pos 1) → atLeast j (meant r (pos (p .index))) ≡ false → Seeks r q j
   seek-past q step c e = record {
     cursor = c ∙ ap (cursorAt r) (step ∴ simp ints (omega arith));
     there = s .there;

@@ -26,7 +26,7 @@ use Rattle.alter_granules.specs.declared.ahead.Walk.{Walk}
 use Rattle.alter_granules.specs.declared.origin.Labelled.{Labelled}
 use Rattle.kinds.specs.Limits.{Limits}
 use Rattle.alter_granules.specs.Given.{Alterable}
-use Rattle.alter_granules.specs.Begins.{at, Begins}
+use Rattle.alter_granules.specs.CoarseBegins.{at, CoarseBegins}
 use Rattle.alter_granules.specs.Follows.{Altering, turnCoarse, turnFine, begins, Origin, Opens, Opened, Starts}
 use Rattle.alter_granules.proofs.Tiled.{coarse-low, fine-low, begins-is, begins-turns}
 use Rattle.alter_granules.proofs.Reach.{fine-high}
@@ -36,7 +36,7 @@ use Rattle.alter_granules.proofs.Sized.{small, changed-within, Turned, 
 abbrev pub firstOf : Alteration → Begin → ℤ
 firstOf by c = c .p +ℤ changes (up (by .x)) (up (by .y)) (c .i -ℤ pos 1) *ℤ by .z
 
-pub first-is : (by : Alteration) (a b : Row) → Altering by a b → (c : Begin) → Begins a b c → firstOf by c ≡ begins by a b (c .i)
+pub first-is : (by : Alteration) (a b : Row) → Altering by a b → (c : Begin) → CoarseBegins a b c → firstOf by c ≡ begins by a b (c .i)
 first-is by a b g c k = ap (λ (p : ℤ). p +ℤ changes (up (by .x)) (up (by .y)) (c .i -ℤ pos 1) *ℤ by .z) (k .is-first) ∙ sym (begins-is by a b g (c .i))
 
 -- after how many turns of the altering the walk begins
@@ -171,8 +171,8 @@ module _ (by : Alteration) (repeat : Repeat) (ap ad bp bd : ℤ) (ac bc : List �
   b = given bp bd bc
 
   pub opened : (first : Labelled) (from begin : Begin) → Opens a first
-      → Begins a b from → meant b (first .t) ≡ some (from .i) → ((first .t -ℤ bp) ≤ℤ at b from) × (at b from ≤ℤ first .t)
-      → Begins a b begin → begin .i ≡ from .i +ℤ pos 1 → (at b from <ℤ at b begin) × (at b begin ≤ℤ (at b from +ℤ bp))
+      → CoarseBegins a b from → meant b (first .t) ≡ some (from .i) → ((first .t -ℤ bp) ≤ℤ at b from) × (at b from ≤ℤ first .t)
+      → CoarseBegins a b begin → begin .i ≡ from .i +ℤ pos 1 → (at b from <ℤ at b begin) × (at b begin ≤ℤ (at b from +ℤ bp))
       → Opened by repeat a b first from begin
   opened first from begin o k of near l on step =
       let m = numbers ap ad ac sa in

@@ -27,8 +27,8 @@ use Rattle.kinds.specs.declared.Alteration.{Alteration}
 use Rattle.alter_granules.specs.declared.coarse.Begin.{Begin}
 use Rattle.alter_granules.specs.declared.ahead.Walk.{Walk}
 use Rattle.kinds.specs.Limits.{Limits}
-use Rattle.alter_granules.specs.Begins.{at, Begins}
-use Rattle.alter_granules.specs.Follows.{Altering, turnCoarse, turnFine, begins, Origin, Walks}
+use Rattle.alter_granules.specs.CoarseBegins.{at, CoarseBegins}
+use Rattle.alter_granules.specs.Follows.{Altering, turnCoarse, turnFine, begins, Origin, CoarseWalk}
 use Rattle.alter_granules.proofs.Tiled.{coarse-low, begins-turns, begins-mono, begins-reflects, begins-step}
 use Rattle.alter_granules.proofs.Reach.{coarse-high, fine-high, instant-reach}
 
@@ -36,7 +36,7 @@ use Rattle.alter_granules.proofs.Reach.{coarse-high, fine-high, instant
 
 -- what the code makes of the walk s
 pub record Moved (by : Alteration) (a b : Row) (s r : Walk) : Type 0 where
-  pub begin : Begins a b (r .begin)
+  pub begin : CoarseBegins a b (r .begin)
   pub step : r .begin .i ≡ s .begin .i +ℤ pos 1
   pub label : r .label ≡ s .label +ℤ pos 1
   pub next : r .next ≡ s .next +ℤ (r .begin .p -ℤ s .begin .p +ℤ cond (eqb (floorMod (s .begin .i -ℤ pos (up (by .y))) (up (by .x))) 0) (by .z) (pos 0))
@@ -62,7 +62,7 @@ module _ (by : Alteration) (a b : Row) (g : Altering by a b) where
   turned-begins : (l i t : ℤ) → l +ℤ pos 1 ≡ i +ℤ turnCoarse by a b *ℤ t → begins by a b (l +ℤ pos 1) ≡ begins by a b i +ℤ turnFine by a b *ℤ t
   turned-begins l i t e = ap (begins by a b) e ∙ begins-turns by a b g t i
 
-  pub walk-on : (s r : Walk) → Walks by a b s → s .next <ℤ s .end → Moved by a b s r → Walks by a b r
+  pub walk-on : (s r : Walk) → CoarseWalk by a b s → s .next <ℤ s .end → Moved by a b s r → CoarseWalk by a b r
   walk-on s r w h m =
       let o = w .origin in
       let turned : r .label +ℤ pos 1 ≡ r .begin .i +ℤ turnCoarse by a b *ℤ o .turns = w .turned ∴ m .step ∴ m .label ∴ simp ints (omega arith) in
@@ -109,14 +109,14 @@ module _ (by : Alteration) (ap ad bp bd : ℤ) (ac bc : List ℤ) (sa : Sound ap
   dense-b = numbers bp bd bc sb .middle
 
   -- a beginning at most 4·n granules on from that of t
-  pub placed : (t i : ℤ) (c : Begin) → pos 0 ≤ℤ t → t ≤ℤ pos poolLimit → meant b t ≡ some i → Begins a b c → i ≤ℤ c .i → c .i ≤ℤ (i +ℤ pos 4 *ℤ turnCoarse by a b)
+  pub placed : (t i : ℤ) (c : Begin) → pos 0 ≤ℤ t → t ≤ℤ pos poolLimit → meant b t ≡ some i → CoarseBegins a b c → i ≤ℤ c .i → c .i ≤ℤ (i +ℤ pos 4 *ℤ turnCoarse by a b)
       → Placed a b c
   placed t i c lo hi e k h l =
       let r = instant-reach by a b g dense-a dense-b t i (at b c) (c .i) lo hi e (k .b-label) h l in
       let near : Within (2 ^ 45) (at b c) = r ∴ simp ints (omega arith) in
       record { place = near; label = label-bound ap ad ac sa (2 ^ 45) (at b c) (c .p) (near .0) (near .1) (k .a-label) ∴ simp ints (omega arith) }
 
-  pub coarse-near : (s : Walk) (w : Walks by a b s) → s .begin .i ≤ℤ (w .origin .coarse +ℤ pos 2 *ℤ turnCoarse by a b)
+  pub coarse-near : (s : Walk) (w : CoarseWalk by a b s) → s .begin .i ≤ℤ (w .origin .coarse +ℤ pos 2 *ℤ turnCoarse by a b)
   coarse-near s w =
       let o = w .origin in
       let from = o .coarse +ℤ turnCoarse by a b *ℤ o .turns in
@@ -125,7 +125,7 @@ module _ (by : Alteration) (ap ad bp bd : ℤ) (ac bc : List ℤ) (sa : Sound ap
       ∴ w .turned
       ∴ simp ints (omega arith)
 
-  pub room : (s : Walk) → Walks by a b s → Room by a b s
+  pub room : (s : Walk) → CoarseWalk by a b s → Room by a b s
   room s w =
       let o = w .origin in
       let from = o .coarse +ℤ turnCoarse by a b *ℤ o .turns in

@@ -19,10 +19,10 @@ use Rattle.alter_granules.specs.declared.Repeat.{Repeat}
 use Rattle.alter_granules.specs.declared.Altered.{Altered}
 use Rattle.alter_granules.specs.declared.coarse.Begin.{Begin}
 use Rattle.alter_granules.specs.declared.ahead.Walk.{Walk}
-use Rattle.alter_granules.specs.declared.behind.Place.{Place}
+use Rattle.alter_granules.specs.declared.behind.Instant.{Instant}
 use Rattle.alter_granules.specs.declared.origin.Labelled.{Labelled}
 use Rattle.alter_granules.specs.Given.{Alterable}
-use Rattle.alter_granules.specs.Begins.{Begins}
+use Rattle.alter_granules.specs.CoarseBegins.{CoarseBegins}
 
 -- what alter is given, with some n and D
 abbrev pub Altering : Alteration → Row → Row → Type 0
@@ -58,9 +58,9 @@ pub record Origin (by : Alteration) (a b : Row) (end : ℤ) : Type 0 where
   pub reach : end ≤ℤ (begins by a b (coarse +ℤ turnCoarse by a b *ℤ turns) +ℤ turnFine by a b +ℤ turnFine by a b)
 
 -- where it is
-pub record Walks (by : Alteration) (a b : Row) (s : Walk) : Type 0 where
+pub record CoarseWalk (by : Alteration) (a b : Row) (s : Walk) : Type 0 where
   pub origin : Origin by a b (s .end)
-  pub begin : Begins a b (s .begin)
+  pub begin : CoarseBegins a b (s .begin)
   pub on : origin .coarse ≤ℤ s .begin .i
   pub turned : s .label +ℤ pos 1 ≡ s .begin .i +ℤ turnCoarse by a b *ℤ origin .turns
   pub residue : s .residue ≡ pos (floorMod (s .begin .i -ℤ pos (up (by .y))) (up (by .x)))
@@ -78,9 +78,9 @@ pub record Opens (a : Row) (r : Labelled) : Type 0 where
 pub record Opened (by : Alteration) (repeat : Repeat) (a b : Row) (first : Labelled) (from begin : Begin) : Type 0 where
   pub given : Alterable by repeat a b
   pub opens : Opens a first
-  pub from-begins : Begins a b from
+  pub from-begins : CoarseBegins a b from
   pub from-of : meant b (first .t) ≡ some (from .i)
-  pub begin-begins : Begins a b begin
+  pub begin-begins : CoarseBegins a b begin
   pub begin-on : begin .i ≡ from .i +ℤ pos 1
   pub early : a .period ≤ poolLimit
   pub j-near : Within (2 ^ 31) (first .j)
@@ -93,7 +93,7 @@ pub record Opened (by : Alteration) (repeat : Repeat) (a b : Row) (first : Label
 pub record Starts (by : Alteration) (a b : Row) (s : Walk) : Type 0 where
   pub first : Labelled
   pub opens : Opens a first
-  pub walk : Walks by a b s
+  pub walk : CoarseWalk by a b s
   pub reached : begins by a b (s .label) ≤ℤ first .j
   pub ends : s .end ≡ first .j +ℤ turnFine by a b
 
@@ -104,8 +104,8 @@ abbrev pub atLeast : ℤ → Option ℤ → Bool
 atLeast j none = false
 atLeast j (some k) = leZ j k
 
--- an instant of a's granule j is at the place or ahead of it
-pub record Seeks (a : Row) (p : Place) (j : ℤ) : Type 0 where
+-- an instant of a's granule j is at p or ahead of it
+pub record Seeks (a : Row) (p : Instant) (j : ℤ) : Type 0 where
   pub cursor : p .cursor ≡ cursorAt a (pos (p .index))
   pub there : ℤ
   pub ahead : pos (p .index) ≤ℤ there
@@ -115,10 +115,10 @@ pub record Seeks (a : Row) (p : Place) (j : ℤ) : Type 0 where
 -- ---- the scan
 
 pub record Follows (by : Alteration) (repeat : Repeat) (a b : Row) (t : ℕ) (s : Altered) : Type 0 where
-  pub walk : Walks by a b (s .walk)
+  pub walk : CoarseWalk by a b (s .walk)
   -- every fine granule from t on is in the altered granule at hand or behind it
   pub reached : (u j : ℤ) → pos t ≤ℤ u → meant a u ≡ some j → begins by a b (s .walk .label) ≤ℤ j
   pub cursor : s .behind .cursor ≡ cursorAt a (pos (s .behind .index))
-  -- of each that the walk does not reach, the one D before is at the place behind or ahead of it
+  -- of each that the walk does not reach, the one D before is at the instant behind or ahead of it
   pub ahead : (u j : ℤ) → pos t ≤ℤ u → meant a u ≡ some j → s .walk .end ≤ℤ j
       → (v : ℤ) × (pos (s .behind .index) ≤ℤ v) × (meant a v ≡ some (j -ℤ repeat .fine))

@@ -14,7 +14,7 @@ use Rattle.cursors.specs.Found.{Within}
 use Rattle.kinds.specs.declared.Alteration.{Alteration}
 use Rattle.alter_granules.specs.declared.coarse.Begin.{Begin}
 use Rattle.kinds.specs.Limits.{Limits}
-use Rattle.alter_granules.specs.Begins.{at, Begins}
+use Rattle.alter_granules.specs.CoarseBegins.{at, CoarseBegins}
 
 -- of a granule with so many fine ones, altering would leave none, and g divides i − y
 abbrev pub shortBy : Alteration → ℕ → ℤ → ℤ → Bool
@@ -30,7 +30,7 @@ pub record Passable (by : Alteration) (a b : Row) (c : Begin) (common count : �
   pub limits : Limits by
   pub full : Full (meant a) × Full (meant b)
   pub partition : Partition (meant a) (meant b)
-  pub begins : Begins a b c
+  pub begins : CoarseBegins a b c
   pub near : Within (2 ^ 53) (at b c)
   pub divides : pos 0 <ℤ common
   pub low : pos 0 ≤ℤ count

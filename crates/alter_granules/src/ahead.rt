@@ -10,7 +10,7 @@ ghost use Rattle.integers.specs.Parts.{up};
 ghost use Rattle.integers.specs.Floor.{floorMod};
 ghost use Rattle.calendar.specs.Questions.{given};
 ghost use Rattle.cursors.specs.Found.{Sound};
-ghost use Rattle.alter_granules.specs.Follows.{Altering, begins, Holds, Walks};
+ghost use Rattle.alter_granules.specs.Follows.{Altering, begins, Holds, CoarseWalk};
 use super::coarse;
 use super::coarse::Begin;
 use kinds::Alteration;
@@ -57,9 +57,9 @@ fn advance(
     requires { ⌜ Sound «a_period» «a_distance» (now «a_cells») ⌝ }
     requires { ⌜ Sound «b_period» «b_distance» (now «b_cells») ⌝ }
     requires { ⌜ Altering by (given «a_period» «a_distance» (now «a_cells»)) (given «b_period» «b_distance» (now «b_cells»)) ⌝ }
-    requires { ⌜ Walks by (given «a_period» «a_distance» (now «a_cells»)) (given «b_period» «b_distance» (now «b_cells»)) s ⌝ }
+    requires { ⌜ CoarseWalk by (given «a_period» «a_distance» (now «a_cells»)) (given «b_period» «b_distance» (now «b_cells»)) s ⌝ }
     requires { ⌜ s .next <ℤ s .end ⌝ }
-    ensures walks { λ r. ⌜ Walks by (given «a_period» «a_distance» (now («a_cells» .entry))) (given «b_period» «b_distance» (now («b_cells» .entry))) r ⌝ }
+    ensures walks { λ r. ⌜ CoarseWalk by (given «a_period» «a_distance» (now («a_cells» .entry))) (given «b_period» «b_distance» (now («b_cells» .entry))) r ⌝ }
     ensures on { λ r. ⌜ (r .label ≡ s .label +ℤ pos 1) × (r .end ≡ s .end) ⌝ }
 {
     let from = s.begin;
@@ -97,9 +97,9 @@ pub fn advance_to(
     requires { ⌜ Sound «a_period» «a_distance» (now «a_cells») ⌝ }
     requires { ⌜ Sound «b_period» «b_distance» (now «b_cells») ⌝ }
     requires { ⌜ Altering by (given «a_period» «a_distance» (now «a_cells»)) (given «b_period» «b_distance» (now «b_cells»)) ⌝ }
-    requires { ⌜ Walks by (given «a_period» «a_distance» (now «a_cells»)) (given «b_period» «b_distance» (now «b_cells»)) from ⌝ }
+    requires { ⌜ CoarseWalk by (given «a_period» «a_distance» (now «a_cells»)) (given «b_period» «b_distance» (now «b_cells»)) from ⌝ }
     requires { ⌜ (begins by (given «a_period» «a_distance» (now «a_cells»)) (given «b_period» «b_distance» (now «b_cells»)) (from .label) ≤ℤ j) × (j <ℤ from .end) ⌝ }
-    ensures walks { λ r. ⌜ Walks by (given «a_period» «a_distance» (now («a_cells» .entry))) (given «b_period» «b_distance» (now («b_cells» .entry))) r ⌝ }
+    ensures walks { λ r. ⌜ CoarseWalk by (given «a_period» «a_distance» (now («a_cells» .entry))) (given «b_period» «b_distance» (now («b_cells» .entry))) r ⌝ }
     ensures has { λ r. ⌜ Holds by (given «a_period» «a_distance» (now («a_cells» .entry))) (given «b_period» «b_distance» (now («b_cells» .entry))) j (r .label) ⌝ }
     ensures end { λ r. ⌜ r .end ≡ from .end ⌝ }
 {

@@ -12,7 +12,7 @@ use cursors::Cursor;
 use cursors::Found;
 
 // An instant, with its cursor in a.
-pub struct Place {
+pub struct Instant {
     pub index: usize,
     pub cursor: Cursor,
 }
@@ -28,7 +28,7 @@ fn at_least(label: Found, j: i64) -> bool
 }
 
 // On to an instant of a's granule j.
-pub fn seek(from: Place, j: i64, cells: &[i32], period: i64, distance: i64) -> Place
+pub fn seek(from: Instant, j: i64, cells: &[i32], period: i64, distance: i64) -> Instant
     requires { ⌜ Sound period distance (now cells) ⌝ }
     requires { ⌜ Seeks (given period distance (now cells)) from j ⌝ }
     ensures cursor { λ r. ⌜ r .cursor ≡ cursorAt (given period distance (now (cells .entry))) (pos (r .index)) ⌝ }
@@ -39,7 +39,7 @@ pub fn seek(from: Place, j: i64, cells: &[i32], period: i64, distance: i64) -> P
     loop {
         let label = cursors::cursor_label(cells, period, distance, cursor);
         if at_least(label, j) {
-            return Place { index, cursor };
+            return Instant { index, cursor };
         }
         cursor = cursors::cursor_next(cells, period, distance, cursor);
         index += 1;

@@ -9,7 +9,7 @@ ghost use Rattle.calendar.specs.Meaning.{meant, Full};
 ghost use Rattle.calendar.specs.Algebra.{Partition};
 ghost use Rattle.calendar.specs.Questions.{given};
 ghost use Rattle.cursors.specs.Found.{Sound, Within};
-ghost use Rattle.alter_granules.specs.Begins.{at, Begins};
+ghost use Rattle.alter_granules.specs.CoarseBegins.{at, CoarseBegins};
 use cursors::Cursor;
 
 // Where b's granule i begins, with the label p of a there: the first granule of a in it.
@@ -36,7 +36,7 @@ pub fn begin_at(
     requires { ⌜ Partition (meant (given «a_period» «a_distance» (now «a_cells»))) (meant (given «b_period» «b_distance» (now «b_cells»))) ⌝ }
     requires { ⌜ Within (2 ^ 52) t ⌝ }
     requires { ⌜ ((i : ℤ) × (meant (given «b_period» «b_distance» (now «b_cells»)) t ≡ some i)) ⌝ }
-    ensures begins { λ r. ⌜ Begins (given «a_period» «a_distance» (now («a_cells» .entry))) (given «b_period» «b_distance» (now («b_cells» .entry))) r ⌝ }
+    ensures begins { λ r. ⌜ CoarseBegins (given «a_period» «a_distance» (now («a_cells» .entry))) (given «b_period» «b_distance» (now («b_cells» .entry))) r ⌝ }
     ensures of { λ r. ⌜ meant (given «b_period» «b_distance» (now («b_cells» .entry))) t ≡ some (r .i) ⌝ }
     ensures near { λ r. ⌜ ((t -ℤ «b_period») ≤ℤ at (given «b_period» «b_distance» (now («b_cells» .entry))) r) × (at (given «b_period» «b_distance» (now («b_cells» .entry))) r ≤ℤ t) ⌝ }
 {
@@ -62,9 +62,9 @@ pub fn following(
     requires { ⌜ Sound «b_period» «b_distance» (now «b_cells») ⌝ }
     requires { ⌜ Full (meant (given «a_period» «a_distance» (now «a_cells»))) × Full (meant (given «b_period» «b_distance» (now «b_cells»))) ⌝ }
     requires { ⌜ Partition (meant (given «a_period» «a_distance» (now «a_cells»))) (meant (given «b_period» «b_distance» (now «b_cells»))) ⌝ }
-    requires { ⌜ Begins (given «a_period» «a_distance» (now «a_cells»)) (given «b_period» «b_distance» (now «b_cells»)) c ⌝ }
+    requires { ⌜ CoarseBegins (given «a_period» «a_distance» (now «a_cells»)) (given «b_period» «b_distance» (now «b_cells»)) c ⌝ }
     requires { ⌜ Within (2 ^ 58) (at (given «b_period» «b_distance» (now «b_cells»)) c) ⌝ }
-    ensures begins { λ r. ⌜ Begins (given «a_period» «a_distance» (now («a_cells» .entry))) (given «b_period» «b_distance» (now («b_cells» .entry))) r ⌝ }
+    ensures begins { λ r. ⌜ CoarseBegins (given «a_period» «a_distance» (now («a_cells» .entry))) (given «b_period» «b_distance» (now («b_cells» .entry))) r ⌝ }
     ensures of { λ r. ⌜ r .i ≡ c .i +ℤ pos 1 ⌝ }
     ensures near { λ r. ⌜ (at (given «b_period» «b_distance» (now («b_cells» .entry))) c <ℤ at (given «b_period» «b_distance» (now («b_cells» .entry))) r) × (at (given «b_period» «b_distance» (now («b_cells» .entry))) r ≤ℤ (at (given «b_period» «b_distance» (now («b_cells» .entry))) c +ℤ «b_period»)) ⌝ }
 {

@@ -10,7 +10,7 @@ ghost use Rattle.cursors.specs.Found.{Sound};
 ghost use Rattle.alter_granules.specs.Given.{Emptiable, Alterable};
 ghost use Rattle.alter_granules.specs.Follows.{Follows};
 use ahead::Walk;
-use behind::Place;
+use behind::Instant;
 use kinds::Alteration;
 
 pub mod ahead;
@@ -29,7 +29,7 @@ pub struct Repeat {
 // by the labels written before.
 pub struct Altered {
     pub walk: Walk,
-    pub behind: Place,
+    pub behind: Instant,
 }
 
 // Whether some granule is left with fewer than one fine granule: check 10.
@@ -103,7 +103,7 @@ pub fn start(
         b_period,
         b_distance,
     );
-    let behind = Place {
+    let behind = Instant {
         index: 0,
         cursor: cursors::cursor_at(a_cells, a_period, a_distance, 0),
     };

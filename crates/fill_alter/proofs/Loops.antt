@@ -22,7 +22,7 @@ use Rattle.kinds.specs.declared.Alteration.{Alteration}
 use Rattle.alter_granules.specs.declared.Repeat.{Repeat}
 use Rattle.alter_granules.specs.declared.Altered.{Altered}
 use Rattle.alter_granules.specs.declared.ahead.Walk.{Walk}
-use Rattle.alter_granules.specs.declared.behind.Place.{Place}
+use Rattle.alter_granules.specs.declared.behind.Instant.{Instant as Place}
 use Rattle.alter_granules.specs.Given.{altering, Alterable, Written}
 use Rattle.alter_granules.specs.Follows.{Follows}
 use Rattle.alter_granules.proofs.Tiled.{altered-iff, holds-some}

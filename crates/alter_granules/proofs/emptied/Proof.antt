@@ -25,7 +25,7 @@ use Rattle.cursors.proofs.Numbers.{Numbers, numbers, valid}
 use Rattle.algebra.proofs.Span.{span-right, rise-positive-right}
 use Rattle.algebra.proofs.Fine.{Partitioned, riseCoarse}
 use Rattle.alter_granules.specs.Given.{Emptiable}
-use Rattle.alter_granules.specs.Begins.{at}
+use Rattle.alter_granules.specs.CoarseBegins.{at}
 use Rattle.alter_granules.specs.Short.{short, Passable}
 use Rattle.alter_granules.proofs.Shortness.{emptied-pass, emptied-never}
 use Rattle.alter_granules.proofs.emptied.Statement.{statement}

@@ -1,4 +1,4 @@
--- `alter_granules::start` meets its contract: the walk starts at the first labelled instant, and the place behind at 0.
+-- `alter_granules::start` meets its contract: the walk starts at the first labelled instant, and the instant behind at 0.
 -- Assumes nothing.
 use borrow.Author.Needs.{needs}
 use Rattle.integers.proofs.Machine.{plain}

@@ -19,8 +19,8 @@ use Rattle.calendar.specs.Meaning.{Row}
 use Rattle.calendar.specs.Questions.{given}
 use Rattle.kinds.specs.declared.Alteration.{Alteration}
 use Rattle.alter_granules.specs.declared.coarse.Begin.{Begin}
-use Rattle.alter_granules.specs.Begins.{at, Begins}
-use Rattle.alter_granules.specs.Follows.{Altering, turnCoarse, Walks}
+use Rattle.alter_granules.specs.CoarseBegins.{at, CoarseBegins}
+use Rattle.alter_granules.specs.Follows.{Altering, turnCoarse, CoarseWalk}
 use Rattle.alter_granules.proofs.Tiled.{coarse-low}
 use Rattle.alter_granules.proofs.Walking.{walk-on, Placed, Room, placed, coarse-near, room, Sums, sums}
 use Rattle.alter_granules.proofs.ahead.advance.Statement.{statement}
@@ -35,7 +35,7 @@ b-row s = given (s .args .b-period) (s .args .b-distance) (s .args .b-cells .now
 altering : (s : tie.Start) → Altering (s .args .by) (a-row s) (b-row s)
 altering s = s .pre .1 .1 .0
 
-walks : (s : tie.Start) → Walks (s .args .by) (a-row s) (b-row s) (s .args .s)
+walks : (s : tie.Start) → CoarseWalk (s .args .by) (a-row s) (b-row s) (s .args .s)
 walks s = s .pre .1 .1 .1 .0
 
 has-room : (s : tie.Start) → Room (s .args .by) (a-row s) (b-row s) (s .args .s)
@@ -67,7 +67,7 @@ coarse-of by a b g c i k e h = coarse-low by a b g ∴ e ∴ h ∴ simp ints (om
 abbrev begin : tie.After-following → Begin
 begin c = c .following .result
 
-begins : (c : tie.After-following) → let s = c .before .before in Begins (a-row s) (b-row s) (begin c)
+begins : (c : tie.After-following) → let s = c .before .before in CoarseBegins (a-row s) (b-row s) (begin c)
 begins c =
     let s = c .before .before in
     let p = s .fits .a-period in

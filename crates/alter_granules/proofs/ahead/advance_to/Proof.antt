@@ -15,7 +15,7 @@ use Rattle.calendar.specs.Questions.{given}
 use Rattle.cursors.specs.Found.{Sound}
 use Rattle.kinds.specs.declared.Alteration.{Alteration}
 use Rattle.alter_granules.specs.declared.ahead.Walk.{Walk}
-use Rattle.alter_granules.specs.Follows.{Altering, begins, Holds, Walks}
+use Rattle.alter_granules.specs.Follows.{Altering, begins, Holds, CoarseWalk}
 use Rattle.alter_granules.proofs.Tiled.{begins-rise}
 use Rattle.integers.proofs.Order.{up-less}
 use Rattle.alter_granules.proofs.ahead.advance_to.Statement.{statement}
@@ -25,7 +25,7 @@ abbrev Inv-loop : tie.InvT-loop
 Inv-loop by j a-cells a-period a-distance b-cells b-period b-distance s₀ s =
     let a = given (toZ w64 a-period) (toZ w64 a-distance) a-cells in
     let b = given (toZ w64 b-period) (toZ w64 b-distance) b-cells in
-    Walks by a b s × (begins by a b (s .label) ≤ℤ toZ w64 j) × (s .end ≡ s₀ .end)
+    CoarseWalk by a b s × (begins by a b (s .label) ≤ℤ toZ w64 j) × (s .end ≡ s₀ .end)
 
 abbrev μ-loop : tie.MeasureT-loop
 μ-loop by j a-cells a-period a-distance b-cells b-period b-distance s₀ s = up (toZ w64 j +ℤ pos 1 -ℤ s .next)
@@ -51,7 +51,7 @@ Required s =
     Sound (toZ w64 (ofZ w64 (s .args .a-period))) (toZ w64 (ofZ w64 (s .args .a-distance))) (s .args .a-cells .now)
     × (Sound (toZ w64 (ofZ w64 (s .args .b-period))) (toZ w64 (ofZ w64 (s .args .b-distance))) (s .args .b-cells .now)
     × (Altering (s .args .by) a b
-    × (Walks (s .args .by) a b (s .args .from)
+    × (CoarseWalk (s .args .by) a b (s .args .from)
     × ((begins (s .args .by) a b (s .args .from .label) ≤ℤ J s) × (J s <ℤ s .args .from .end)))))
 
 required : (s : Start) → Required s
@@ -87,7 +87,7 @@ advance-requires c κs =
     let r = required s in
     (r .0, (r .1 .0, (r .1 .1 .0, (c .before .before .before .loop .inv .0, next-before c))))
 
-less : (by : Alteration) (a b : Row) → Altering by a b → (s r : Walk) → Walks by a b s → Walks by a b r → r .label ≡ s .label +ℤ pos 1 → s .next <ℤ r .next
+less : (by : Alteration) (a b : Row) → Altering by a b → (s r : Walk) → CoarseWalk by a b s → CoarseWalk by a b r → r .label ≡ s .label +ℤ pos 1 → s .next <ℤ r .next
 less by a b g s r w v e = w .next ∴ v .next ∴ ap (λ (l : ℤ). begins by a b (l +ℤ pos 1)) e ∴ begins-rise by a b g (s .label +ℤ pos 1) ∴ simp ints (omega arith)
 
 loop-less : tie.Need-loop-less Inv-loop μ-loop
@@ -122,7 +122,7 @@ returns c =
     let m = s .fits .b-distance in
     let j = s .fits .j in
     let holds : Holds (s .args .by) (a-row s) (b-row s) (J s) (w .label) = (v .1, v .0 .next ∴ h ∴ simp ints (omega arith)) in
-    let x : Walks (s .args .by) (a-row s) (b-row s) w × (Holds (s .args .by) (a-row s) (b-row s) (J s) (w .label) × (w .end ≡ s .args .from .end)) = (v .0, (holds, v .2)) in
+    let x : CoarseWalk (s .args .by) (a-row s) (b-row s) w × (Holds (s .args .by) (a-row s) (b-row s) (J s) (w .label) × (w .end ≡ s .args .from .end)) = (v .0, (holds, v .2)) in
     simp plain at x
 
 pub advance-to-spec : {M : Type 1} → statement M

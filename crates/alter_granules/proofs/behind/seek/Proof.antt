@@ -16,7 +16,7 @@ use Rattle.calendar.specs.Questions.{given}
 use Rattle.granules.specs.Valid.{Valid}
 use Rattle.cursors.specs.Found.{Sound, Near}
 use Rattle.cursors.proofs.Numbers.{valid}
-use Rattle.alter_granules.specs.declared.behind.Place.{Place}
+use Rattle.alter_granules.specs.declared.behind.Instant.{Instant}
 use Rattle.alter_granules.specs.Follows.{atLeast, Seeks}
 use Rattle.alter_granules.proofs.Sought.{seek-ends, seek-past, seek-near, seek-left}
 use Rattle.alter_granules.proofs.behind.seek.Statement.{statement}
@@ -59,7 +59,7 @@ loop-holds c =
 abbrev begun : tie.At-loop Inv-loop μ-loop → Start
 begun c = c .before .before
 
-abbrev here : tie.At-loop Inv-loop μ-loop → Place
+abbrev here : tie.At-loop Inv-loop μ-loop → Instant
 here c = record { index = c .loop .index; cursor = c .loop .cursor }
 
 near : (c : tie.At-loop Inv-loop μ-loop) → Near (pos (c .loop .index))

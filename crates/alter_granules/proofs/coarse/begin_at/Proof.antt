@@ -23,7 +23,7 @@ use Rattle.cursors.proofs.Bounds.{first-bounds}
 use Rattle.containment.proofs.Places.{instant-is}
 use Rattle.algebra.proofs.Fine.{Partitioned}
 use Rattle.alter_granules.specs.declared.coarse.Begin.{Begin}
-use Rattle.alter_granules.specs.Begins.{at, Begins}
+use Rattle.alter_granules.specs.CoarseBegins.{at, CoarseBegins}
 use Rattle.alter_granules.proofs.Beginnings.{begins-at}
 use Rattle.alter_granules.proofs.coarse.begin_at.Statement.{statement}
 use Rattle.alter_granules.proofs.coarse.begin_at.Tie as tie
@@ -179,7 +179,7 @@ placed c = let d = begun (c .before .before) in instant-is (b-row (d .before)) (
 same-granule : (c : tie.After-label-of2) → let d = begun (c .before .before) in own (d .before) ≡ made c .i
 same-granule c = some-inj (sym (b-shows (begun (c .before .before))) ∙ b-label c)
 
-begins : (c : tie.After-label-of2) → let s = begun (c .before .before) .before in Begins (a-row s) (b-row s) (made c)
+begins : (c : tie.After-label-of2) → let s = begun (c .before .before) .before in CoarseBegins (a-row s) (b-row s) (made c)
 begins c =
     let e = c .before .before in
     let d = begun e in

@@ -21,7 +21,7 @@ use Rattle.cursors.proofs.Numbers.{numbers, valid}
 use Rattle.algebra.proofs.Fine.{Partitioned}
 use Rattle.strides.specs.Changes.{Changes}
 use Rattle.alter_granules.specs.declared.coarse.Begin.{Begin}
-use Rattle.alter_granules.specs.Begins.{at, Begins}
+use Rattle.alter_granules.specs.CoarseBegins.{at, CoarseBegins}
 use Rattle.alter_granules.proofs.Beginnings.{Next, next-begins}
 use Rattle.alter_granules.proofs.coarse.following.Statement.{statement}
 use Rattle.alter_granules.proofs.coarse.following.Tie as tie
@@ -48,7 +48,7 @@ b-sound s =
 -- what is required of them and of where the stride starts
 record Asked (a b : Row) (c : Begin) : Type 0 where
   known : Partitioned a b
-  begun : Begins a b c
+  begun : CoarseBegins a b c
   within : Within (2 ^ 58) (at b c)
 
 asked : (s : tie.Start) → Asked (a-row s) (b-row s) (s .args .c)

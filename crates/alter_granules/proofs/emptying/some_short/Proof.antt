@@ -18,7 +18,7 @@ use Rattle.cursors.specs.Found.{Sound, Within}
 use Rattle.cursors.proofs.Numbers.{numbers, valid}
 use Rattle.algebra.proofs.Fine.{Partitioned}
 use Rattle.alter_granules.specs.declared.coarse.Begin.{Begin}
-use Rattle.alter_granules.specs.Begins.{at}
+use Rattle.alter_granules.specs.CoarseBegins.{at}
 use Rattle.alter_granules.specs.Short.{shortBy, Passable}
 use Rattle.alter_granules.proofs.Beginnings.{Next}
 use Rattle.integers.proofs.Order.{up-less}

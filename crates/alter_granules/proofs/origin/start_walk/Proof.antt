@@ -16,7 +16,7 @@ use Rattle.cursors.proofs.Numbers.{Numbers, numbers}
 use Rattle.alter_granules.specs.declared.coarse.Begin.{Begin}
 use Rattle.alter_granules.specs.declared.origin.Labelled.{Labelled}
 use Rattle.alter_granules.specs.Given.{Alterable}
-use Rattle.alter_granules.specs.Begins.{at, Begins}
+use Rattle.alter_granules.specs.CoarseBegins.{at, CoarseBegins}
 use Rattle.alter_granules.specs.Follows.{Opens, Opened}
 use Rattle.alter_granules.proofs.Started.{opened}
 use Rattle.alter_granules.proofs.origin.start_walk.Statement.{statement}
@@ -83,7 +83,7 @@ from c = c .begin-at .result
 
 abbrev From : tie.Start → Labelled → Begin → Type 0
 From s f c =
-    Begins (a-row s) (b-row s) c
+    CoarseBegins (a-row s) (b-row s) c
     × ((meant (b-row s) (f .t) ≡ some (c .i)) × (((f .t -ℤ s .args .b-period) ≤ℤ at (b-row s) c) × (at (b-row s) c ≤ℤ f .t)))
 
 from-is : (c : tie.After-begin-at) → From (told c .before) (first (told c)) (from c)
@@ -129,7 +129,7 @@ begin c = c .following .result
 
 abbrev Next : tie.Start → Begin → Begin → Type 0
 Next s k c =
-    Begins (a-row s) (b-row s) c
+    CoarseBegins (a-row s) (b-row s) c
     × ((c .i ≡ k .i +ℤ pos 1) × ((at (b-row s) k <ℤ at (b-row s) c) × (at (b-row s) c ≤ℤ (at (b-row s) k +ℤ s .args .b-period))))
 
 begin-is : (c : tie.After-following) → Next (told (c .before) .before) (from (c .before)) (begin c)

@@ -15,9 +15,9 @@ use Rattle.integers.proofs.Machine.{plain, test-lt}
 use Rattle.calendar.specs.Sound.{sound}
 use Rattle.cursors.proofs.Numbers.{read-as}
 use Rattle.alter_granules.specs.declared.ahead.Walk.{Walk}
-use Rattle.alter_granules.specs.declared.behind.Place.{Place}
+use Rattle.alter_granules.specs.declared.behind.Instant.{Instant as Place}
 use Rattle.alter_granules.specs.Follows as follows
-use Rattle.alter_granules.specs.Follows.{Altering, Walks, begins}
+use Rattle.alter_granules.specs.Follows.{Altering, CoarseWalk as Walks, begins}
 use Rattle.alter_granules.proofs.Followed.{reaches}
 use Rattle.fill_alter.proofs.Scans.{Found, both, found-as, found-walk}
 use Rattle.fill_alter.proofs.fill_alter.Proof.Begun.{Inv-loop, μ-loop, a-sound, b-sound}

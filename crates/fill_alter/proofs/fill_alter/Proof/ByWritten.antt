@@ -22,7 +22,7 @@ use Rattle.cursors.specs.Cursor.{cursorAt}
 use Rattle.cursors.proofs.Numbers.{read-as, numbers}
 use Rattle.cursors.proofs.Bounds.{label-bound}
 use Rattle.alter_granules.specs.declared.Altered.{Altered}
-use Rattle.alter_granules.specs.declared.behind.Place.{Place}
+use Rattle.alter_granules.specs.declared.behind.Instant.{Instant as Place}
 use Rattle.alter_granules.specs.Follows.{Seeks}
 use Rattle.alter_granules.proofs.Followed.{seeks, place-behind}
 use Rattle.alter_granules.proofs.Reach.{Turns, turns-near}

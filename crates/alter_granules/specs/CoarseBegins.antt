@@ -14,7 +14,7 @@ abbrev pub at : Row → Begin → ℤ
 at b c = instant b (c .b)
 
 -- it is an instant of the granule i of b and of a's granule p, the first that meets i
-pub record Begins (a b : Row) (c : Begin) : Type 0 where
+pub record CoarseBegins (a b : Row) (c : Begin) : Type 0 where
   pub a-cursor : c .a ≡ cursorAt a (at b c)
   pub b-cursor : c .b ≡ cursorAt b (at b c)
   pub a-label : meant a (at b c) ≡ some (c .p)
