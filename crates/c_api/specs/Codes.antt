@@ -12,7 +12,7 @@ use Rattle.calendar.specs.Outcome.{Outcome}
 use Rattle.calendar.specs.Outcome.Outcome.{refusedAt, rows}
 use Rattle.calendar.specs.Granules.{granules}
 use Rattle.calendar.specs.Questions.{labelledInstants}
-use Rattle.floats.specs.Figures.{Shown}
+use Rattle.floats.specs.Figures.{Quotients}
 use Rattle.floats.specs.declared.Allowance.{Allowance}
 use Rattle.floats.specs.declared.Allowance.the-variants.{Fixed, Share}
 use Rattle.calendar.specs.Sound.{sound}
@@ -52,7 +52,7 @@ nought = fin false 0 (pos 0)
 pub record FiguresLeft (r : Row) (code : ℤ) (openness length spacing : Float) : Type 0 where
   pub is : code ≡ figuresCode (sound r)
   pub figures : sound r ≡ true
-      → Shown (labelledInstants r) (r .period) (granules r) (record { openness = openness; «mean_length» = length; «mean_spacing» = spacing })
+      → Quotients (labelledInstants r) (r .period) (granules r) (record { openness = openness; «mean_length» = length; «mean_spacing» = spacing })
   pub zeros : sound r ≡ false → (openness ≡ nought) × (length ≡ nought) × (spacing ≡ nought)
 
 -- ---- lateness: 1 for yes, 0 for no

@@ -14,7 +14,7 @@ pub record Quotient (n d : ℕ) (v : Float) : Type 0 where
 
 -- "the open part (labelled instants per period / P), mean slot length (open / R) and mean spacing (P / R), R being the slots per period":
 -- `labelled` instants, a period P, R `granules`
-pub record Shown (labelled period granules : ℕ) (v : Figures) : Type 0 where
+pub record Quotients (labelled period granules : ℕ) (v : Figures) : Type 0 where
   pub openness : Quotient labelled period (v .openness)
   pub mean-length : Quotient labelled granules (v .«mean_length»)
   pub mean-spacing : Quotient period granules (v .«mean_spacing»)

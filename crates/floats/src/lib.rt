@@ -4,7 +4,7 @@ ghost use mathlib.Core.Path.{_≡_};
 ghost use mathlib.Core.Bool.{true};
 ghost use Prim.Native.Nat.{_≤_};
 ghost use Rattle.floats.specs.Near.{limit};
-ghost use Rattle.floats.specs.Figures.{Quotient, Shown};
+ghost use Rattle.floats.specs.Figures.{Quotient, Quotients};
 ghost use Rattle.floats.specs.Allowance.{amount, share, isAllowed, mayBeLate};
 
 // The figures of a row: the part of its instants that is labelled (the open part), and the mean length and the mean spacing of its
@@ -26,7 +26,7 @@ fn quotient(n: u64, d: u64) -> f64
 // The figures of a row that has so many labelled instants and granules in a period.
 pub fn figures_of(labelled: u64, period: u64, granules: u64) -> Figures
     requires { ⌜ (labelled ≤ period) × (1 ≤ period) × (period ≤ limit) × (1 ≤ granules) × (granules ≤ limit) ⌝ }
-    ensures { λ v. ⌜ Shown labelled period granules v ⌝ }
+    ensures { λ v. ⌜ Quotients labelled period granules v ⌝ }
 {
     Figures {
         openness: quotient(labelled, period),

@@ -16,7 +16,7 @@ use Rattle.calendar.specs.Sound.{sound}
 use Rattle.calendar.specs.Stored.{filled}
 use Rattle.calendar.specs.Questions.{labelledInstants, granuleLength}
 use Rattle.calendar.specs.Refusals.{numberOf}
-use Rattle.floats.specs.Figures.{Shown}
+use Rattle.floats.specs.Figures.{Quotients}
 use Rattle.floats.specs.Allowance as F
 use Rattle.floats.specs.declared.Allowance.{Allowance}
 use Rattle.questions.specs.declared.Up as Up
@@ -45,7 +45,7 @@ partsAfter n (answer l) = filled n (pos 0) l
 
 -- the figures of a row: 13, or labelled instants per period / P, the same / R, and P / R
 abbrev pub FiguresOf : Row → Figured.Figured → Type 0
-FiguresOf r (Figured.the-variants.Are v) = (sound r ≡ true) × Shown (labelledInstants r) (r .period) (granules r) v
+FiguresOf r (Figured.the-variants.Are v) = (sound r ≡ true) × Quotients (labelledInstants r) (r .period) (granules r) v
 FiguresOf r (Figured.the-variants.Refused x) = (sound r ≡ false) × (numberOf x ≡ 13)
 
 -- "may a delivery be d instants late on slot z?"

@@ -17,7 +17,7 @@ use Rattle.calendar.specs.Lists.{isSome}
 use Rattle.calendar.specs.Granules.{granules}
 use Rattle.calendar.specs.Sound.{sound}
 use Rattle.calendar.specs.Questions.{given, labelledInstants}
-use Rattle.floats.specs.Figures.{Shown}
+use Rattle.floats.specs.Figures.{Quotients}
 use Rattle.floats.specs.declared.Figures.{Figures}
 use Rattle.granules.proofs.Tests.{not-iff}
 use Rattle.granules.proofs.Count.{count-at-most, granules-positive, granules-at-most}
@@ -114,7 +114,7 @@ figures-of-requires c κs =
     (omega (arith, a, p, l .labelled), omega (arith, p, l .least), omega (arith, p, l .greatest), omega (arith, g, l .low), omega (arith, g, l .high, l .greatest))
 
 -- the same figures of equal counts
-shown : {a b c d e f : ℕ} (v : Figures) → a ≡ b → c ≡ d → e ≡ f → Shown a c e v → Shown b d f v
+shown : {a b c d e f : ℕ} (v : Figures) → a ≡ b → c ≡ d → e ≡ f → Quotients a c e v → Quotients b d f v
 shown v p q r h = rw r at (rw q at (rw p at h))
 
 returns-2 : tie.Need-returns-2
