@@ -55,8 +55,8 @@ int main(void)
     printf("\n");
     printf("week 2 is not made up of slots: refused with %d\n", (int)-jogipahn_down(ROW(1), ROW(3), 2, parts, 8));
 
-    double openness, length, spacing;
-    jogipahn_figures(ROW(3), &openness, &length, &spacing);
-    printf("open %.4f, a slot every %.4f days\n", openness, spacing);
+    double openness, mean_length, mean_spacing;
+    jogipahn_figures(ROW(3), &openness, &mean_length, &mean_spacing);
+    printf("open %.4f, a slot every %.4f days\n", openness, mean_spacing);
     return 0;
 }

@@ -1,7 +1,8 @@
-/* The conversion of a table of calendars to rows, and questions to a row.
+/* The conversion of a table of calendars to rows, and questions to a row. `rt staticlib jogipahn` writes the archive that
+ * has the functions, target/staticlib/libjogipahn.a (link with -lm).
  *
- * A row is the labels of the instants 0 to period - 1, and INT32_MIN for an instant that has none. The instant t has the label in cell
- * (t mod period) plus distance * floor(t / period). A question is handed a row as its cells, with their number, its period and its
+ * A row is the labels of the instants 0 to period - 1, and INT32_MIN for an instant that has none; the instants with one
+ * label are a slot. The instant t has the label in cell (t mod period) plus distance * floor(t / period). A question is handed a row as its cells, with their number, its period and its
  * distance, and answers with one number. One below zero is a refusal, its number with the sign changed:
  *
  *     -13   a row is not sound: its length is not the period, not 1 <= distance <= period <= 1,048,576, a label is outside the
@@ -9,9 +10,10 @@
  *     -14   an argument is outside the limits: a label or an instant outside -1,000,000,000 to 1,000,000,000, or a lateness
  *           outside 0 to 1,048,576
  *     -15   z is not a label of its row
- *     -16   the granules do not make up the whole granule
+ *     -16   the slots do not make up the whole slot
  *     -17   the list is too short for the parts
- *     -18   the allowance is not allowed
+ *     -18   a rule that is neither 0 nor 1, a fixed allowance that is negative, infinite or no number, or a share that is not
+ *           0 to 1 in steps of 1/256
  *
  * Of several, the answer is the first of 13 (each row in the order of the arguments), 14, 18, 15, 16, 17. Any numbers may be passed.
  * What is asked of the caller is what C cannot check: a pointer points to as many numbers as its length says (to one, where it has
@@ -32,7 +34,7 @@ extern "C" {
  * start, period and distance of each entry, and 0 behind the last. After a refusal all of the pool is INT32_MIN and all of headings 0.
  * Refusals: 1 the table's length is not 6 times 1 to 32; 2 fewer than three heading numbers for each entry; 3 a pool above 1,048,576
  * cells; then entry by entry 4 an unknown kind; 5 an operand that is no earlier entry; 6 a number outside its limits; 7 an operand that
- * must be full is not; 8 span or working period above the room; 9 operands not aligned; 10 a granule emptied by alter; 12 no label;
+ * must be full is not; 8 span or working period above the room; 9 operands not aligned; 10 a slot emptied by alter; 12 no label;
  * 11 a label outside -1,000,000,000 to 1,000,000,000. */
 int64_t jogipahn_convert(const int32_t *table, size_t n, uint32_t *headings, size_t m, int32_t *pool, size_t p);
 
@@ -40,24 +42,24 @@ int64_t jogipahn_convert(const int32_t *table, size_t n, uint32_t *headings, siz
  * Refusals: 13, 14. */
 int64_t jogipahn_up_instant(const int32_t *cells, size_t len, int64_t period, int64_t distance, int64_t t, int64_t *label);
 
-/* The label of the granule of h that contains the whole granule z of g. 1 with the label in *label; 0 if there is none. *label is 0
+/* The label of the slot of h that contains the whole slot z of g. 1 with the label in *label; 0 if there is none. *label is 0
  * after 0 and after a refusal. Refusals: 13 for g and for h, 14, 15. */
 int64_t jogipahn_up_granule(const int32_t *g_cells, size_t g_len, int64_t g_period, int64_t g_distance,
                             const int32_t *h_cells, size_t h_len, int64_t h_period, int64_t h_distance, int64_t z, int64_t *label);
 
-/* The labels of g's granules that make up the granule z of h, rising, in parts[0], parts[1], ..: how many there are. The rest of the
+/* The labels of g's slots that make up the slot z of h, rising, in parts[0], parts[1], ..: how many there are. The rest of the
  * list is 0, and all of it after a refusal. Refusals: 13 for h and for g, 14, 15, 16, 17. */
 int64_t jogipahn_down(const int32_t *h_cells, size_t h_len, int64_t h_period, int64_t h_distance,
                       const int32_t *g_cells, size_t g_len, int64_t g_period, int64_t g_distance, int64_t z,
                       int64_t *parts, size_t parts_len);
 
-/* The part of the instants that is labelled, the mean length of a granule and the mean spacing: 0 with the three figures. They are
+/* The part of the instants that is labelled, the mean length of a slot and the mean spacing: 0 with the three figures. They are
  * 0.0 after a refusal. Refusals: 13. */
 int64_t jogipahn_figures(const int32_t *cells, size_t len, int64_t period, int64_t distance,
-                         double *openness, double *length, double *spacing);
+                         double *openness, double *mean_length, double *mean_spacing);
 
-/* Whether a delivery may be d instants late on the granule z: 1 for yes, 0 for no. By rule 0 it may be late by `amount` instants,
- * which is finite and not below zero; by rule 1 by a share of the granule's length, a multiple of 1/256 from 0 to 1. Any other rule is
+/* Whether a delivery may be d instants late on the slot z: 1 for yes, 0 for no. By rule 0 it may be late by `amount` instants,
+ * which is finite and not below zero; by rule 1 by a share of the slot's length, a multiple of 1/256 from 0 to 1. Any other rule is
  * refused with 18. Refusals: 13, 14, 18, 15. */
 int64_t jogipahn_may_be_late(const int32_t *cells, size_t len, int64_t period, int64_t distance,
                              int64_t z, int64_t d, int64_t rule, double amount);

@@ -10,8 +10,8 @@ fn main() {
     }
     let package = env::var_os("CARGO_MANIFEST_DIR").expect("cargo names the package's folder");
     let folder = PathBuf::from(package).join("../target/staticlib");
-    let archive = folder.join("libc_api.a");
+    let archive = folder.join("libjogipahn.a");
     println!("cargo:rerun-if-changed={}", archive.display());
     println!("cargo:rustc-link-search=native={}", folder.display());
-    println!("cargo:rustc-link-lib=static=c_api");
+    println!("cargo:rustc-link-lib=static=jogipahn");
 }

@@ -58,7 +58,7 @@ fn main() -> Result<(), u32> {
         println!("week 2 is not made up of slots: refused with {number}");
     }
 
-    let (openness, _, spacing) = core::figures(slot)?;
-    println!("open {openness:.4}, a slot every {spacing:.4} days");
+    let (openness, _, mean_spacing) = core::figures(slot)?;
+    println!("open {openness:.4}, a slot every {mean_spacing:.4} days");
     Ok(())
 }

@@ -56,8 +56,8 @@ mod questions {
             period: i64,
             distance: i64,
             openness: *mut f64,
-            length: *mut f64,
-            spacing: *mut f64,
+            mean_length: *mut f64,
+            mean_spacing: *mut f64,
         ) -> i64;
 
         fn jogipahn_may_be_late(
@@ -137,7 +137,7 @@ mod questions {
     }
 
     pub fn figures(row: Row) -> Result<(f64, f64, f64), u32> {
-        let (mut openness, mut length, mut spacing) = (f64::NAN, f64::NAN, f64::NAN);
+        let (mut openness, mut mean_length, mut mean_spacing) = (f64::NAN, f64::NAN, f64::NAN);
         // SAFETY: the row's cells are borrowed, and the figures are written to
         // numbers of this function.
         let answer = unsafe {
@@ -147,12 +147,12 @@ mod questions {
                 row.period,
                 row.distance,
                 &mut openness,
-                &mut length,
-                &mut spacing,
+                &mut mean_length,
+                &mut mean_spacing,
             )
         };
         match answer {
-            0 => Ok((openness, length, spacing)),
+            0 => Ok((openness, mean_length, mean_spacing)),
             _ => Err(refusal(answer)),
         }
     }

@@ -10,7 +10,7 @@
 //!   it has to print; `cargo run --release --bin vectors` writes both.
 //!
 //! `cargo test --release` runs everything that needs no core. With the core's
-//! archive in `../target/staticlib/libc_api.a`:
+//! archive in `../target/staticlib/libjogipahn.a`:
 //!
 //! ```text
 //! cargo test --release --features questions  --test questions  -- --nocapture

@@ -1,46 +1,76 @@
-// The calendar core: a caller reads this file, and needs no other crate.
+// The calendar core: all that a caller uses is named in this file.
 //
-// A calendar gives some instants, which are whole numbers (days, say, or hours), a label; instants with one label are a slot. Labels never fall, and
-// repeat: a row of `period` cells holds the labels of the instants 0 to period - 1, and a period later every label is greater by `distance`. The cell of an
-// instant with no label is `Calendar::EMPTY`.
+// A calendar gives some instants, which are whole numbers (days, say, or hours), a label; the instants with one label
+// are a slot. Labels never fall, and repeat: a row of `period` cells holds the labels of the instants 0 to period -
+// 1, and a period later every label is greater by `distance`. The cell of an instant with no label is
+// `Calendar::EMPTY`.
 //
-// A table describes calendars, six numbers an entry: kind, first, second, x, y, z. `convert` turns each entry into the shortest row that means its calendar; a
-// `Reader` of such a row, or of any other, answers questions. Anything may be handed in: the answer is one value or one refusal, by document 01's numbers.
+// A table describes calendars, six numbers an entry: kind, first, second, x, y, z. `convert` turns each entry into the
+// shortest row that means its calendar; a `Reader` of such a row, or of any other, answers questions. Anything may be
+// handed in: the answer is one value or one refusal, by document 01's numbers.
 //
-//     kind                     x                     y             z          its calendar
-//     0   bottom                                                              each instant is its own label
-//     1   group first          1 to 1,000,000                                 x slots in a row become one
-//     2   shift first          a label                                        x is added to each label
-//     3   alter first, second  1 to 1,000,000        1 to x        a change   of x slots of second in a row the y-th gets z slots of first more
-//     4   combine                                                             first's labels where a slot of second lies in one of first
-//     5   anchor                                                              the last label of second, wherever first has one
-//     6   select-down          a position, not 0     how many                 of first's slots in each of second's: y from the x-th on, from the end if x < 0
-//     7   select-up                                                           first's slots that hold a whole slot of second
-//     8   select-intersecting  a position, not 0     how many                 of first's slots that meet each of second's: y from the x-th on
-//     9   union, 10 intersection, 11 difference                               by labels
-//     12  renumber first       a label                                        the labels one by one; the least that is not below x gets 1
+//     kind                     x                  y         z         its calendar
+//     0   bottom                                                      each instant is its own label
+//     1   group first          1 to 1,000,000                         x slots in a row become one
+//     2   shift first          a label                                x is added to each label
+//     3   alter first, second  1 to 1,000,000     1 to x    a change  of x slots of second in a row the y-th gets z
+//                                                                     slots of first more
+//     4   combine                                                     first's labels where a slot of second lies in
+//                                                                     one of first
+//     5   anchor                                                      the last label of second, wherever first has one
+//     6   select-down          a position, not 0  how many            of first's slots in each of second's: y from the
+//                                                                     x-th on, from the end if x < 0
+//     7   select-up                                                   first's slots that hold a whole slot of second
+//     8   select-intersecting  a position, not 0  how many            of first's slots that meet each of second's: y
+//                                                                     from the x-th on
+//     9   union, 10 intersection, 11 difference                       by labels
+//     12  renumber first       a label                                the labels one by one; the least that is not
+//                                                                     below x gets 1
 //
 // Numbers that a kind does not name are 0. `first` and `second` are entries before this one.
+//
+// A caller's code names `jogipahn` alone. Its line in crates.txt names beside `jogipahn` each crate that declares a
+// type whose values the caller makes or takes apart, since a proof cites a type where it is declared:
+//     calendar     Calendar, Refusal                  headings     Heading
+//     conversion   Conversion                         questions    Up, Parted, Figured, Late
+//     floats       Allowance, Figures                 reader       Reader
+// A value that is only handed on, as a refusal within an answer, needs none.
 
-// Bottom's constants, the empty cell and the limits of labels: `Calendar::{BOTTOM_PERIOD, BOTTOM_DISTANCE, BOTTOM_LABEL, EMPTY, LEAST_LABEL, GREATEST_LABEL}` and
-// `Calendar::bottom()`.
+// The most entries of a table, the most cells of a pool or a row, and the greatest lateness that may be asked about.
+pub use calendar::ENTRY_LIMIT;
+pub use calendar::LATE_LIMIT;
+pub use calendar::POOL_LIMIT;
+
+// Bottom's constants, the empty cell and the limits of labels: `Calendar::{BOTTOM_PERIOD, BOTTOM_DISTANCE,
+// BOTTOM_LABEL, EMPTY, LEAST_LABEL, GREATEST_LABEL}` and `Calendar::bottom()`.
 pub use calendar::Calendar;
 
 // Why something is refused, with document 01's number for each name (`number`):
-//     1 TableLength          the table's length is not 6 times 1 to 32        10 GranuleEmptied         alter leaves a slot with nothing
-//     2 TooFewHeadings       fewer headings than entries                      11 LabelOutsideLimits     a label is outside ±1,000,000,000
-//     3 PoolTooLong          a pool above 1,048,576 cells                     12 NothingLabelled        no instant would have a label
-//     4 UnknownKind          a kind that is not 0 to 12                       13 RowNotSound            a row that is none
-//     5 OperandNotEarlier    an operand that is no earlier entry              14 ArgumentOutsideLimits  an argument outside its limits
-//     6 NumberOutsideLimits  x, y, z outside the kind's limits                15 NotALabel              a label that the row does not have
-//     7 OperandNotFull       an operand lacks a label that the kind needs     16 PartsIncomplete        the slots do not make up the whole
-//     8 TooLong              span or working period above the room            17 ListTooShort           the list cannot hold the parts
-//     9 NotAligned           the operands do not fit each other               18 AllowanceNotAllowed    an allowance that is none
+//     1  TableLength            the table's length is not 6 times 1 to 32
+//     2  TooFewHeadings         fewer headings than entries
+//     3  PoolTooLong            a pool above 1,048,576 cells
+//     4  UnknownKind            a kind that is not 0 to 12
+//     5  OperandNotEarlier      an operand that is no earlier entry
+//     6  NumberOutsideLimits    x, y or z outside the kind's limits
+//     7  OperandNotFull         an operand lacks a label that the kind needs
+//     8  TooLong                span or working period above the room
+//     9  NotAligned             the operands do not fit each other
+//     10 GranuleEmptied         alter leaves a slot with nothing
+//     11 LabelOutsideLimits     a label is outside ±1,000,000,000
+//     12 NothingLabelled        no instant would have a label
+//     13 RowNotSound            the cells are not as many as the period, not 1 <= distance <= period <= 1,048,576,
+//                               a label is outside the limits, no cell has a label, or labels fall
+//     14 ArgumentOutsideLimits  a label or an instant outside ±1,000,000,000, or a lateness outside 0 to 1,048,576
+//     15 NotALabel              a label that the row does not have
+//     16 PartsIncomplete        the slots do not make up the whole slot
+//     17 ListTooShort           the list cannot hold the parts
+//     18 AllowanceNotAllowed    a fixed allowance that is negative, infinite or no number, or a share that is not
+//                               0 to 1 in steps of 1/256
 pub use calendar::Refusal;
 
-// convert(table, headings, pool): the rows of all entries into the pool, one behind the other, and where each stands into the headings. Refuses 1 to 3 for the
-// lists and 4 to 12 for an entry; then every cell is empty and every heading zero. Costs time in proportion to the working rows and a few divisors of each,
-// and no memory.
+// convert(table, headings, pool): the rows of all entries into the pool, one behind the other, and where each stands
+// into the headings. Refuses 1 to 3 for the lists and 4 to 12 for an entry; then every cell is empty and every
+// heading zero. Costs time in proportion to the working rows and a few divisors of each, and no memory.
 pub use headings::convert;
 
 // Where an entry's row starts in the pool, its period and its distance.
@@ -52,11 +82,13 @@ pub use conversion::Conversion;
 // The same with three plain numbers for each heading: a caller in Rattle proves against it without a proof by hand.
 pub use conversion::convert as convert_plain;
 
-// A row with its period and distance. Its questions refuse 13 for a row that is none, and pass over the row once for that:
+// A row with its period and distance. Its questions refuse 13 for a row that is not sound, and pass over the row once
+// for that:
 //     up_instant(t)        the slot of an instant, or none; refuses 14
 //     up_granule(h, z)     the slot of h that holds all of slot z, or none; refuses 14, 15
-//     down(g, z, parts)    the slots of g that make up slot z, rising, in a lent list; refuses 14, 15, 16, 17, and leaves the list zero then
-//     figures()            openness, mean length and mean spacing
+//     down(g, z, parts)    the slots of g that make up slot z, rising, in a lent list; refuses 14, 15, 16, 17, and
+//                          leaves the list zero then
+//     figures()            openness, mean length of a slot and mean spacing
 //     may_be_late(z, d, a) whether slot z may be d instants late; refuses 14, 18, 15
 // Beyond the pass over each row up from a slot and down take time in proportion to the slots and their gaps.
 pub use reader::Reader;
@@ -69,9 +101,13 @@ pub use questions::Late;
 pub use questions::Up;
 pub use questions::down::Parted;
 
-// The questions with plain parameters (what is asked, then each row's cells, period and distance), for callers that hold no reader.
+// The questions with plain parameters (what is asked, then each row's cells, period and distance), for callers that
+// hold no reader.
 pub use questions::down::down;
 pub use questions::figures;
 pub use questions::may_be_late;
 pub use questions::up_granule;
 pub use questions::up_instant;
+
+// The same for C, as include/jogipahn.h declares them.
+mod c_api;

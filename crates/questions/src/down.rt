@@ -1,4 +1,4 @@
-// Down: the granules of one row that make up a granule of another.
+// Down: the slots of one row that make up a slot of another.
 
 ghost use mathlib.Core.Path.{_≡_};
 ghost use lib.IntN.{pos};
@@ -28,8 +28,9 @@ fn clear(parts: &mut [i64])
     }
 }
 
-// The labels of g's granules that make up the granule z of h, rising, in `parts`; the rest of it is zero, and all of it after a refusal. Refuses 13 for h and for
-// g, 14, 15, 16, 17. Costs a pass over each row, for check 13 and to find the granule, and a walk over the granule and the gaps of g beside it.
+// The labels of g's slots that make up the slot z of h, rising, in `parts`; the rest of it is zero, and all of it
+// after a refusal. Refuses 13 for h and for g, 14, 15, 16, 17. Costs a pass over each row, for check 13 and to find
+// the slot, and a walk over the slot and the gaps of g beside it.
 pub fn down(
     z: i64,
     parts: &mut [i64],

@@ -1,5 +1,6 @@
-// Questions to a row that is handed in with its period and distance: up, figures and lateness; down is in its own file. Nothing is asked of the caller: any
-// slice and any numbers have an answer or one numbered refusal. What a question asks stands before the row, so that a reader of a row can hand on its fields.
+// Questions to a row that is handed in with its period and distance: up, figures and lateness; down is in its own
+// file. Nothing is asked of the caller: any slice and any numbers have an answer or one numbered refusal. What a
+// question asks stands before the row, so that a reader of a row can hand on its fields.
 
 ghost use mathlib.Core.Path.{_≡_};
 ghost use mathlib.Core.Bool.{true};
@@ -25,7 +26,7 @@ use floats::Figures;
 
 pub mod down;
 
-// The label of a granule that holds what was asked about, or none.
+// The label of the slot that holds what was asked about, or none.
 pub enum Up {
     Label(i64),
     Nothing,
@@ -60,8 +61,8 @@ pub fn up_instant(t: i64, cells: &[i32], period: i64, distance: i64) -> Up
     }
 }
 
-// The label of the granule of h that contains the whole granule z of g, or none. Refuses 13 for g and for h, 14, 15. Costs one pass over each row, for check 13,
-// at most two more over g's, to find the granule, and a walk over the granule.
+// The label of the slot of h that contains the whole slot z of g, or none. Refuses 13 for g and for h, 14, 15. Costs
+// one pass over each row, for check 13, at most two more over g's, to find the slot, and a walk over the slot.
 pub fn up_granule(
     z: i64,
     g_cells: &[i32],
@@ -101,7 +102,8 @@ pub fn up_granule(
     }
 }
 
-// Openness, mean length and mean spacing. Refuses 13. Costs three passes over the row, one of them for check 13.
+// Openness, mean length of a slot and mean spacing. Refuses 13. Costs three passes over the row, one of them for
+// check 13.
 pub fn figures(cells: &[i32], period: i64, distance: i64) -> Figured
     ensures { λ r. ⌜ FiguresOf (given period distance (now (cells .entry))) r ⌝ }
 {
@@ -121,7 +123,7 @@ fn is_lateness(d: i64) -> bool
     0 <= d && d <= LATE_LIMIT
 }
 
-// The length of the granule of t: last instant - first instant + 1.
+// The length of the slot of t: last instant - first instant + 1.
 fn granule_length(cells: &[i32], period: i64, distance: i64, t: i64) -> u64
     requires { ⌜ Sound period distance (now cells) ⌝ }
     requires { ⌜ Labelled (given period distance (now cells)) t ⌝ }
@@ -132,7 +134,8 @@ fn granule_length(cells: &[i32], period: i64, distance: i64, t: i64) -> u64
     (last - first + 1) as u64
 }
 
-// Whether a delivery may be d instants late on z, of a sound row and with numbers within the limits: z may still be no label.
+// Whether a delivery may be d instants late on z, of a sound row and with numbers within the limits: z may still be
+// no label.
 fn judged(z: i64, d: i64, allowance: Allowance, cells: &[i32], period: i64, distance: i64) -> Late
     requires { ⌜ Sound period distance (now cells) ⌝ }
     requires { ⌜ Within 1000000000 z ⌝ }
@@ -152,8 +155,8 @@ fn judged(z: i64, d: i64, allowance: Allowance, cells: &[i32], period: i64, dist
     }
 }
 
-// Whether a delivery may be d instants late on the granule z. Refuses 13, 14, 18, 15. Costs one pass over the row, for check 13, at most two more, to find the
-// granule, and a walk over the granule.
+// Whether a delivery may be d instants late on the slot z. Refuses 13, 14, 18, 15. Costs one pass over the row, for
+// check 13, at most two more, to find the slot, and a walk over the slot.
 pub fn may_be_late(
     z: i64,
     d: i64,

@@ -19,31 +19,34 @@ pub struct Reader<'a> {
 }
 
 impl<'a> Reader<'a> {
-    // The label of the instant t, or none. Refuses 13 for a row that is none, then 14 for t outside ±1,000,000,000. Costs one pass over the row, and a
-    // division.
+    // The label of the instant t, or none. Refuses 13 for a row that is not sound, then 14 for t outside
+    // ±1,000,000,000. Costs one pass over the row, and a division.
     pub fn up_instant(self, t: i64) -> Up
         ensures { λ r. ⌜ upReply r ≡ upFromInstant (given (self .entry .period) (self .entry .distance) (now (self .entry .cells))) t ⌝ }
     {
         questions::up_instant(t, self.cells, self.period, self.distance)
     }
 
-    // Openness, mean length and mean spacing, each rounded once. Refuses 13. Costs three passes over the row.
+    // Openness, mean length of a slot and mean spacing, each rounded once. Refuses 13. Costs three passes over the
+    // row.
     pub fn figures(self) -> Figured
         ensures { λ r. ⌜ FiguresOf (given (self .entry .period) (self .entry .distance) (now (self .entry .cells))) r ⌝ }
     {
         questions::figures(self.cells, self.period, self.distance)
     }
 
-    // Whether a delivery may be d instants late on the granule z. Refuses 13, 14 for z or d outside the limits, 18 for an allowance that is none, 15 where z is no
-    // label. Costs three passes over the row at most, and a walk over the granule.
+    // Whether a delivery may be d instants late on the slot z. Refuses 13, 14 for z or d outside the limits, 18 for a
+    // fixed allowance that is negative, infinite or no number and for a share that is not 0 to 1 in steps of 1/256,
+    // 15 where z is no label. Costs three passes over the row at most, and a walk over the slot.
     pub fn may_be_late(self, z: i64, d: i64, allowance: Allowance) -> Late
         ensures { λ r. ⌜ lateReply r ≡ mayBeLate (given (self .entry .period) (self .entry .distance) (now (self .entry .cells))) z d allowance ⌝ }
     {
         questions::may_be_late(z, d, allowance, self.cells, self.period, self.distance)
     }
 
-    // The label of the granule of h that contains the whole granule z, or none. Refuses 13 for this row and for h, 14 for z outside ±1,000,000,000, 15 where z is no
-    // label. Costs three passes over this row at most, one over h, and a walk over the granule.
+    // The label of the slot of h that contains the whole slot z, or none. Refuses 13 for this row and for h, 14 for z
+    // outside ±1,000,000,000, 15 where z is no label. Costs three passes over this row at most, one over h, and a
+    // walk over the slot.
     pub fn up_granule<'b>(self, h: Reader<'b>, z: i64) -> Up
         ensures { λ r. ⌜ upReply r ≡ upFromGranule (given (self .entry .period) (self .entry .distance) (now (self .entry .cells))) (given (h .entry .period) (h .entry .distance) (now (h .entry .cells))) z ⌝ }
     {
@@ -58,9 +61,10 @@ impl<'a> Reader<'a> {
         )
     }
 
-    // The labels of the granules of g that make up the granule z, rising, in `parts`, and how many they are; the rest of the list is zero, and all of it after a
-    // refusal. Refuses 13 for this row and for g, 14, 15, 16 where they do not make up the granule, 17 where the list is too short. Costs three passes over this
-    // row at most, one over g, and a walk over the granule and those of g that meet it.
+    // The labels of the slots of g that make up the slot z, rising, in `parts`, and how many they are; the rest of
+    // the list is zero, and all of it after a refusal. Refuses 13 for this row and for g, 14, 15, 16 where they do
+    // not make up the slot, 17 where the list is too short. Costs three passes over this row at most, one over g, and
+    // a walk over the slot and those of g that meet it.
     pub fn down<'g, 'p>(self, g: Reader<'g>, z: i64, parts: &'p mut [i64]) -> Parted
         ensures answer { λ r. ⌜ partsReply r ≡ counted (Q.down (given (self .entry .period) (self .entry .distance) (now (self .entry .cells))) (given (g .entry .period) (g .entry .distance) (now (g .entry .cells))) z (length (now (parts .entry)))) ⌝ }
         ensures list { λ r. ⌜ now (parts .exit) ≡ partsAfter (length (now (parts .entry))) (Q.down (given (self .entry .period) (self .entry .distance) (now (self .entry .cells))) (given (g .entry .period) (g .entry .distance) (now (g .entry .cells))) z (length (now (parts .entry)))) ⌝ }
@@ -76,15 +80,4 @@ impl<'a> Reader<'a> {
             g.distance,
         )
     }
-}
-
-// The first question with plain parameters: a reader is made of them and asked. Whoever calls it needs no proof by hand.
-pub fn up_instant(t: i64, cells: &[i32], period: i64, distance: i64) -> Up
-    ensures { λ r. ⌜ upReply r ≡ upFromInstant (given period distance (now (cells .entry))) t ⌝ }
-{
-    Reader {
-        cells,
-        period,
-        distance,
-    }.up_instant(t)
 }

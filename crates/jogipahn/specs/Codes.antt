@@ -1,0 +1,79 @@
+-- Answers as numbers for C: a refusal is its number below zero, an answer is not below zero.
+use mathlib.Core.Path.{_≡_}
+use mathlib.Core.Bool.{Bool, true, false}
+use mathlib.Core.Option.{Option, none, some}
+use Prim.Native.Nat.{ℕ, zero, suc, _+_, _*_}
+use lib.IntN.{ℤ, pos, negsuc, negℤ}
+use lib.Ieee.{Float, fin}
+use Rattle.calendar.specs.Meaning.{Row}
+use Rattle.calendar.specs.Reply.{Reply}
+use Rattle.calendar.specs.Reply.Reply.{refused, answer}
+use Rattle.calendar.specs.Outcome.{Outcome}
+use Rattle.calendar.specs.Outcome.Outcome.{refusedAt, rows}
+use Rattle.calendar.specs.Granules.{granules}
+use Rattle.calendar.specs.Questions.{labelledInstants}
+use Rattle.floats.specs.Figures.{Quotients}
+use Rattle.floats.specs.declared.Allowance.{Allowance}
+use Rattle.floats.specs.declared.Allowance.the-variants.{Fixed, Share}
+use Rattle.calendar.specs.Sound.{sound}
+use Rattle.conversion.specs.declared.Conversion.{Conversion}
+use Rattle.conversion.specs.declared.Conversion.the-variants.{Refused, Converted}
+
+abbrev pub refusalCode : ℕ → ℤ
+refusalCode n = negℤ (pos n)
+
+-- ---- up: 1 with a label, 0 with none
+abbrev pub upCode : Reply (Option ℤ) → ℤ
+upCode (refused n) = refusalCode n
+upCode (answer none) = pos 0
+upCode (answer (some j)) = pos 1
+
+-- the label, or 0
+abbrev pub upLabel : Reply (Option ℤ) → ℤ
+upLabel (refused n) = pos 0
+upLabel (answer none) = pos 0
+upLabel (answer (some j)) = j
+
+-- ---- down: how many parts there are
+abbrev pub downCode : Reply ℕ → ℤ
+downCode (refused n) = refusalCode n
+downCode (answer n) = pos n
+
+-- ---- figures: 0, or 13 where the row isn't sound
+abbrev pub figuresCode : Bool → ℤ
+figuresCode true = pos 0
+figuresCode false = refusalCode 13
+
+-- 0.0
+abbrev pub nought : Float
+nought = fin false 0 (pos 0)
+
+-- the code, and the three numbers that are left: the figures of a sound row, else zeros
+pub record FiguresLeft (r : Row) (code : ℤ) (openness meanLength meanSpacing : Float) : Type 0 where
+  pub is : code ≡ figuresCode (sound r)
+  pub figures : sound r ≡ true
+      → Quotients (labelledInstants r) (r .period) (granules r) (record { openness = openness; «mean_length» = meanLength; «mean_spacing» = meanSpacing })
+  pub zeros : sound r ≡ false → (openness ≡ nought) × (meanLength ≡ nought) × (meanSpacing ≡ nought)
+
+-- ---- lateness: 1 for yes, 0 for no
+abbrev pub lateCode : Reply Bool → ℤ
+lateCode (refused n) = refusalCode n
+lateCode (answer true) = pos 1
+lateCode (answer false) = pos 0
+
+-- the allowance of a rule: 0 fixed, 1 a share, and −1 instants, which is never allowed, for any other
+abbrev pub allowanceOf : ℤ → Float → Allowance
+allowanceOf (pos zero) v = Fixed v
+allowanceOf (pos (suc zero)) v = Share v
+allowanceOf (pos (suc (suc n))) v = Fixed (fin true 1 (pos 0))
+allowanceOf (negsuc n) v = Fixed (fin true 1 (pos 0))
+
+-- ---- conversion: 0, or 100 times the refusal's number plus the entry
+abbrev pub conversionCode : Outcome → ℤ
+conversionCode (refusedAt n k) = pos (100 * n + k)
+conversionCode (rows l) = pos 0
+
+-- the same of the answer of the code
+abbrev pub codeOf : Conversion → ℤ
+codeOf (Refused n k) = pos (100 * n + k)
+codeOf Converted = pos 0

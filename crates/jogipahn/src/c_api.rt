@@ -1,0 +1,208 @@
+// The conversion of a table and questions to a row, for C: include/jogipahn.h declares the functions. Each answers
+// with one number; what else there is to say is left in the lists and behind the pointers that are handed in. A
+// question's refusal is its number below zero.
+
+ghost use mathlib.Core.Path.{_≡_};
+ghost use Prim.Native.Nat.{_/_};
+ghost use lib.ListN.{length};
+ghost use Rattle.calendar.specs.Limits.{headingLength};
+ghost use Rattle.calendar.specs.Refusals.{numberOf};
+ghost use Rattle.calendar.specs.Outcome.{outcome};
+ghost use Rattle.calendar.specs.Stored.{poolAfter, headingsAfter};
+ghost use Rattle.calendar.specs.Questions.{given};
+ghost use Rattle.calendar.specs.Questions as Q;
+ghost use Rattle.questions.specs.Answers.{upReply, counted, partsAfter, mayBeLate};
+ghost use Rattle.jogipahn.specs.Codes.{refusalCode, upCode, upLabel, downCode, FiguresLeft, lateCode, allowanceOf, conversionCode, codeOf};
+use calendar::Refusal;
+use conversion::Conversion;
+use floats::Allowance;
+use questions::Figured;
+use questions::Late;
+use questions::Up;
+use questions::down::Parted;
+
+// A refusal as a number.
+fn refusal_code(x: Refusal) -> i64
+    ensures { λ r. ⌜ r ≡ refusalCode (numberOf x) ⌝ }
+{
+    0 - (x.number() as i64)
+}
+
+// An answer of up: 1 with a label, which goes into `label`, and 0 with none.
+fn told(up: Up, label: &mut i64) -> i64
+    ensures code { λ r. ⌜ r ≡ upCode (upReply up) ⌝ }
+    ensures label { λ r. ⌜ now (label .exit) ≡ upLabel (upReply up) ⌝ }
+{
+    match up {
+        Up::Label(j) => {
+            *label = j;
+            1
+        }
+        Up::Nothing => {
+            *label = 0;
+            0
+        }
+        Up::Refused(x) => {
+            *label = 0;
+            refusal_code(x)
+        }
+    }
+}
+
+// The label of the instant t, in `label`: 1; or 0 if it has none.
+#[no_mangle]
+pub extern "C" fn jogipahn_up_instant(
+    cells: &[i32],
+    period: i64,
+    distance: i64,
+    t: i64,
+    label: &mut i64,
+) -> i64
+    ensures code { λ r. ⌜ r ≡ upCode (Q.upFromInstant (given period distance (now (cells .entry))) t) ⌝ }
+    ensures label { λ r. ⌜ now (label .exit) ≡ upLabel (Q.upFromInstant (given period distance (now (cells .entry))) t) ⌝ }
+{
+    let up = questions::up_instant(t, cells, period, distance);
+    told(up, label)
+}
+
+// The label of the slot of h that contains the whole slot z of g, in `label`: 1; or 0 if there is none.
+#[no_mangle]
+pub extern "C" fn jogipahn_up_granule(
+    g_cells: &[i32],
+    g_period: i64,
+    g_distance: i64,
+    h_cells: &[i32],
+    h_period: i64,
+    h_distance: i64,
+    z: i64,
+    label: &mut i64,
+) -> i64
+    ensures code { λ r. ⌜ r ≡ upCode (Q.upFromGranule (given «g_period» «g_distance» (now («g_cells» .entry))) (given «h_period» «h_distance» (now («h_cells» .entry))) z) ⌝ }
+    ensures label { λ r. ⌜ now (label .exit) ≡ upLabel (Q.upFromGranule (given «g_period» «g_distance» (now («g_cells» .entry))) (given «h_period» «h_distance» (now («h_cells» .entry))) z) ⌝ }
+{
+    let up = questions::up_granule(
+        z,
+        g_cells,
+        g_period,
+        g_distance,
+        h_cells,
+        h_period,
+        h_distance,
+    );
+    told(up, label)
+}
+
+// The labels of g's slots that make up the slot z of h, rising, in `parts`, with zeros behind them: how many there
+// are.
+#[no_mangle]
+pub extern "C" fn jogipahn_down(
+    h_cells: &[i32],
+    h_period: i64,
+    h_distance: i64,
+    g_cells: &[i32],
+    g_period: i64,
+    g_distance: i64,
+    z: i64,
+    parts: &mut [i64],
+) -> i64
+    ensures code { λ r. ⌜ r ≡ downCode (counted (Q.down (given «h_period» «h_distance» (now («h_cells» .entry))) (given «g_period» «g_distance» (now («g_cells» .entry))) z (length (now (parts .entry))))) ⌝ }
+    ensures list { λ r. ⌜ now (parts .exit) ≡ partsAfter (length (now (parts .entry))) (Q.down (given «h_period» «h_distance» (now («h_cells» .entry))) (given «g_period» «g_distance» (now («g_cells» .entry))) z (length (now (parts .entry)))) ⌝ }
+{
+    let parted = questions::down::down(
+        z,
+        &mut *parts,
+        h_cells,
+        h_period,
+        h_distance,
+        g_cells,
+        g_period,
+        g_distance,
+    );
+    match parted {
+        Parted::Parts(n) => n as i64,
+        Parted::Refused(x) => refusal_code(x),
+    }
+}
+
+// The open part of the row, the mean length of its slots and their mean spacing: 0.
+#[no_mangle]
+pub extern "C" fn jogipahn_figures(
+    cells: &[i32],
+    period: i64,
+    distance: i64,
+    openness: &mut f64,
+    mean_length: &mut f64,
+    mean_spacing: &mut f64,
+) -> i64
+    ensures { λ r. ⌜ FiguresLeft (given period distance (now (cells .entry))) r (now (openness .exit)) (now («mean_length» .exit)) (now («mean_spacing» .exit)) ⌝ }
+{
+    let figured = questions::figures(cells, period, distance);
+    match figured {
+        Figured::Are(v) => {
+            *openness = v.openness;
+            *mean_length = v.mean_length;
+            *mean_spacing = v.mean_spacing;
+            0
+        }
+        Figured::Refused(x) => {
+            *openness = 0.0;
+            *mean_length = 0.0;
+            *mean_spacing = 0.0;
+            refusal_code(x)
+        }
+    }
+}
+
+// The allowance of a rule: 0 a fixed number of instants, 1 a share. Any other rule gets one that is never allowed, so
+// that it is refused in its turn.
+fn allowance_of(rule: i64, amount: f64) -> Allowance
+    ensures { λ r. ⌜ r ≡ allowanceOf rule amount ⌝ }
+{
+    match rule {
+        0 => Allowance::Fixed(amount),
+        1 => Allowance::Share(amount),
+        _ => Allowance::Fixed(-1.0),
+    }
+}
+
+// Whether a delivery may be d instants late on the slot z: 1 for yes, 0 for no.
+#[no_mangle]
+pub extern "C" fn jogipahn_may_be_late(
+    cells: &[i32],
+    period: i64,
+    distance: i64,
+    z: i64,
+    d: i64,
+    rule: i64,
+    amount: f64,
+) -> i64
+    ensures { λ r. ⌜ r ≡ lateCode (mayBeLate (given period distance (now (cells .entry))) z d (allowanceOf rule amount)) ⌝ }
+{
+    let late = questions::may_be_late(z, d, allowance_of(rule, amount), cells, period, distance);
+    match late {
+        Late::Allowed => 1,
+        Late::TooLate => 0,
+        Late::Refused(x) => refusal_code(x),
+    }
+}
+
+// What converting came to as a number.
+fn conversion_code(c: Conversion) -> i64
+    ensures { λ r. ⌜ r ≡ codeOf c ⌝ }
+{
+    match c {
+        Conversion::Refused(number, entry) => 100 * (number as i64) + entry as i64,
+        Conversion::Converted => 0,
+    }
+}
+
+// Converts a table, with three numbers a heading: 0, or 100 times the refusal's number plus its entry.
+#[no_mangle]
+pub extern "C" fn jogipahn_convert(table: &[i32], headings: &mut [u32], pool: &mut [i32]) -> i64
+    ensures code { λ r. ⌜ r ≡ conversionCode (outcome (now (table .entry)) (length (now (headings .entry)) / headingLength) (length (now (pool .entry)))) ⌝ }
+    ensures headings { λ r. ⌜ now (headings .exit) ≡ headingsAfter (length (now (headings .entry))) (outcome (now (table .entry)) (length (now (headings .entry)) / headingLength) (length (now (pool .entry)))) ⌝ }
+    ensures pool { λ r. ⌜ now (pool .exit) ≡ poolAfter (length (now (pool .entry))) (outcome (now (table .entry)) (length (now (headings .entry)) / headingLength) (length (now (pool .entry)))) ⌝ }
+{
+    let converted = conversion::convert(table, &mut *headings, &mut *pool);
+    conversion_code(converted)
+}
