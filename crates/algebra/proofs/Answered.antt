@@ -26,7 +26,8 @@ use Rattle.granules.proofs.Rows.{valid-of-least, labels-mem, label-index, cell-
 use Rattle.granules.proofs.Least.{least-shorter, least-repeats}
 use Rattle.granules.proofs.Sound.{sound-valid, sound-limits, valid-sound}
 use Rattle.granules.proofs.Replies.{require-answer}
-use Rattle.algebra.specs.Ready.{Operands, Factor, meaning, Ready}
+use Rattle.algebra.specs.Ready.{Operands, meaning, Ready}
+use Rattle.algebra.specs.Factor.{Factor}
 use Rattle.algebra.specs.TableMeaning.{Labelled}
 use Rattle.algebra.proofs.Operations.{operands-weaken}
 use Rattle.algebra.proofs.OperandChecks.{fullOperands-iff, aligned-iff}

@@ -24,7 +24,8 @@ use Rattle.granules.proofs.Tests.{not-iff, leb-iff, false-iff, label-ext}
 use Rattle.granules.proofs.Calendars.{periods-proportional}
 use Rattle.granules.proofs.Rows.{valid-of-least}
 use Rattle.granules.proofs.Least.{least-row, least-repeats}
-use Rattle.algebra.specs.Ready.{Operands, Factor, meaning, Ready, Right}
+use Rattle.algebra.specs.Ready.{Operands, meaning, Ready, Right}
+use Rattle.algebra.specs.Factor.{Factor}
 use Rattle.algebra.specs.TableMeaning.{Meant, Judged, FullIn, SpanIn, AlignedIn, KeptIn, WorkingIn, Labelled, InRange, LeastTurn, calendars, turns}
 use Rattle.algebra.specs.TableMeaning.Judged.{not-full, span-too-long, not-aligned, emptied as some-emptied, period-too-long, unlabelled as none-labelled, out-of-range, answered}
 use Rattle.algebra.specs.Represents.{Represents}

@@ -23,7 +23,8 @@ use Rattle.calendar.specs.Checks.{emptied}
 use Rattle.granules.specs.Valid.{Valid}
 use Rattle.granules.proofs.Tests.{true≢false, ltZ-iff}
 use Rattle.granules.proofs.Lists.{mem-from, any-iff}
-use Rattle.algebra.specs.Ready.{Operands, Factor, meaning}
+use Rattle.algebra.specs.Ready.{Operands, meaning}
+use Rattle.algebra.specs.Factor.{Factor}
 use Rattle.algebra.proofs.Fine.{Partitioned}
 use Rattle.algebra.proofs.AlterSize.{coarseOf, fineOf}
 use Rattle.algebra.proofs.Altered.{coarse-positive, first-turn, last-turn, emptied-at}

@@ -17,7 +17,8 @@ use Rattle.calendar.specs.Limits.{between, million}
 use Rattle.calendar.specs.Table.{Entry, Kind, kinds, one, two, noOperand, zero?, earlier, named}
 use Rattle.granules.proofs.Tests.{true≢false, and-iff, leZ-iff, ltb-iff}
 use Rattle.granules.proofs.Replies.{require-answer}
-use Rattle.algebra.specs.Ready.{Operands, Factor, FactorUnary, FactorBinary}
+use Rattle.algebra.specs.Ready.{Operands}
+use Rattle.algebra.specs.Factor.{Factor, FactorUnary, FactorBinary}
 
 infixr 5 _then_
 -- what an entry behind k others names

@@ -5,38 +5,19 @@ use mathlib.Core.Option.{some}
 use Prim.Native.Nat.{_≤_}
 use lib.IntN.{ℤ}
 use Rattle.calendar.specs.Meaning.{Row, Calendar, meant, Ordered, Repeats}
-use Rattle.calendar.specs.Operation.{Unary, Binary, Operation, mapOperation}
-use Rattle.calendar.specs.Operation.Unary.{group, shift, renumber}
-use Rattle.calendar.specs.Operation.Binary.{alter, combine, anchor, select, by-labels}
+use Rattle.calendar.specs.Operation.{Operation, mapOperation}
 use Rattle.calendar.specs.Operation.Operation.{bottom, unary, binary}
 use Rattle.calendar.specs.Algebra.{Labels, FullOperands, Aligned, Emptied}
 use Rattle.calendar.specs.Distance.{size}
 use Rattle.calendar.specs.Compute.{result}
 use Rattle.granules.specs.Valid.{Valid}
+use Rattle.algebra.specs.Factor.{Factor}
 
 -- what holds of each operand
 abbrev pub Operands : {A : Type 0} → (A → Type 0) → Operation A → Type 0
 Operands P bottom = Unit {0}
 Operands P (unary u a) = P a
 Operands P (binary o a b) = P a × P b
-
--- a factor is at least 1: what check 6 gives that the results rest on
-abbrev pub FactorUnary : Unary → Type 0
-FactorUnary (group x) = 1 ≤ x
-FactorUnary (shift x) = Unit {0}
-FactorUnary (renumber x) = Unit {0}
-
-abbrev pub FactorBinary : Binary → Type 0
-FactorBinary (alter x y z) = 1 ≤ x
-FactorBinary combine = Unit {0}
-FactorBinary anchor = Unit {0}
-FactorBinary (select s) = Unit {0}
-FactorBinary (by-labels s) = Unit {0}
-
-abbrev pub Factor : {A : Type 0} → Operation A → Type 0
-Factor bottom = Unit {0}
-Factor (unary u a) = FactorUnary u
-Factor (binary o a b) = FactorBinary o
 
 -- the calendars that its rows mean
 abbrev pub meaning : Operation Row → Operation Calendar

@@ -1,10 +1,11 @@
 -- Lists of numbers and tests on them and on labels, for the definitions that compute.
 use mathlib.Core.Option.{Option, none, some}
 use mathlib.Core.Bool.{Bool, true, false, not, _&&_, _||_, cond}
-use mathlib.Core.List.{List, [], _∷_}
-use Prim.Native.Nat.{ℕ, zero, suc}
+use mathlib.Core.List.{List, [], _∷_, _++_}
+use Prim.Native.Nat.{ℕ, zero, suc, _-_}
 use lib.Dec.{eqb}
 use lib.IntN.{ℤ, pos, negsuc, _+ℤ_}
+use lib.ListN.{length, replicate}
 
 abbrev pub any : (ℤ → Bool) → List ℤ → Bool
 any f [] = false
@@ -38,6 +39,10 @@ equal (pos a) (pos b) = eqb a b
 equal (pos a) (negsuc b) = false
 equal (negsuc a) (pos b) = false
 equal (negsuc a) (negsuc b) = eqb a b
+
+-- l with d behind it, n in all
+abbrev pub filled : {A : Type 0} → ℕ → A → List A → List A
+filled n d l = l ++ replicate (n - length l) d
 
 -- ---- labels that may be missing
 

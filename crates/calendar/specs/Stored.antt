@@ -1,9 +1,9 @@
 -- What a conversion leaves in the lists that it was lent (document 01, "How much room an entry takes" and "When the desk says no").
 use mathlib.Core.List.{List, [], _∷_, _++_}
-use Prim.Native.Nat.{ℕ, _+_, _-_}
+use Prim.Native.Nat.{ℕ, _+_}
 use lib.IntN.{ℤ}
-use lib.ListN.{length, replicate}
 use Rattle.calendar.specs.Meaning.{Row, empty}
+use Rattle.calendar.specs.Lists.{filled}
 use Rattle.calendar.specs.Outcome.{Outcome}
 use Rattle.calendar.specs.Outcome.Outcome.{refusedAt, rows}
 
@@ -16,10 +16,6 @@ joined (r ∷ l) = r .cells ++ joined l
 abbrev pub headingsFrom : ℕ → List Row → List ℕ
 headingsFrom start [] = []
 headingsFrom start (r ∷ l) = start ∷ r .period ∷ r .distance ∷ headingsFrom (start + r .period) l
-
--- l with d behind it, n in all
-abbrev pub filled : {A : Type 0} → ℕ → A → List A → List A
-filled n d l = l ++ replicate (n - length l) d
 
 -- a pool of n cells: "cells behind the last row are '.'"; after a refusal every cell is
 unfoldable pub poolAfter : ℕ → Outcome → List ℤ

@@ -6,10 +6,10 @@ use mathlib.Core.Option.{some}
 use mathlib.Core.Bool.{Bool, true, false}
 use Prim.Native.Nat.{_<_}
 use native.Mathlib.Omega.{arith}
-use lib.IntN.{ℤ, pos, _+ℤ_, _-ℤ_}
+use lib.IntN.{ℤ, pos, _+ℤ_}
 use lib.Signed.{_≤ℤ_, _<ℤ_}
 use Rattle.integers.proofs.Linear.{ints, _∴_}
-use Rattle.integers.proofs.Order.{≤ℤ-antisym, le-or-lt}
+use Rattle.integers.proofs.Order.{le-or-lt}
 use Rattle.calendar.specs.Meaning.{Row, meant}
 use Rattle.calendar.specs.Granules.{granule}
 use Rattle.granules.specs.Valid.{Valid}

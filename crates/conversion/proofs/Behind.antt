@@ -17,7 +17,8 @@ use Rattle.calendar.specs.Reply.{Reply, andThen}
 use Rattle.calendar.specs.Reply.Reply.{refused, answer}
 use Rattle.calendar.specs.Table.{Entry, entryAt, named}
 use Rattle.calendar.specs.Outcome.{converted, judged, atRows}
-use Rattle.calendar.specs.Stored.{joined, headingsFrom, filled}
+use Rattle.calendar.specs.Stored.{joined, headingsFrom}
+use Rattle.calendar.specs.Lists.{filled}
 use Rattle.granules.proofs.Sound.{sound-valid}
 use Rattle.algebra.proofs.Operations.{operands-weaken, operands-map, factor-map}
 use Rattle.algebra.proofs.Answered.{converted-sound}

@@ -10,7 +10,7 @@ use lib.IntN.{ℤ}
 use lib.ListN.{length, getD, take, drop, set, replicate, length-append, length-replicate, length-drop, take-append-drop, replicate-append-replicate, drop-of-length-le}
 use lib.Seq.{length-take-le, drop-cons, append-snoc, set-at}
 use Rattle.calendar.specs.Meaning.{empty}
-use Rattle.calendar.specs.Stored.{filled}
+use Rattle.calendar.specs.Lists.{filled}
 use Rattle.conversion.specs.Tables.{Cleared}
 
 pub filled-length : {A : Type 0} (n : ℕ) (d : A) → length (filled n d []) ≡ n

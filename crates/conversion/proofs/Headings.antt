@@ -9,7 +9,8 @@ use lib.ListN.{length, getD, take, replicate, length-append, length-replicate}
 use lib.Seq.{drop-append-seam, take-at, getD-append-add}
 use Rattle.calendar.specs.Limits.{headingLength}
 use Rattle.calendar.specs.Meaning.{Row, empty, bottomRow}
-use Rattle.calendar.specs.Stored.{joined, headingsFrom, filled}
+use Rattle.calendar.specs.Stored.{joined, headingsFrom}
+use Rattle.calendar.specs.Lists.{filled}
 use Rattle.granules.proofs.Equal.{row-ext}
 use Rattle.conversion.specs.Left.{startAt, endAt, rowAt}
 

@@ -17,7 +17,8 @@ use Rattle.calendar.specs.Reply.Reply.{refused, answer}
 use Rattle.calendar.specs.Table.{entryAt, admitted}
 use Rattle.calendar.specs.Outcome.{Outcome, judged, entries, outcome}
 use Rattle.calendar.specs.Outcome.Outcome.{refusedAt, rows}
-use Rattle.calendar.specs.Stored.{joined, filled, poolAfter, headingsAfter}
+use Rattle.calendar.specs.Stored.{joined, poolAfter, headingsAfter}
+use Rattle.calendar.specs.Lists.{filled}
 use Rattle.granules.proofs.Tests.{and-iff, eqb-iff, leb-iff}
 use Rattle.granules.proofs.Sound.{sound-valid}
 use Rattle.algebra.proofs.Operations.{require-answer}

@@ -7,7 +7,8 @@ use lib.ListN.{length}
 use Rattle.calendar.specs.Meaning.{empty}
 use Rattle.calendar.specs.Limits.{poolLimit, entryLimit, headingLength}
 use Rattle.calendar.specs.Outcome.{Outcome}
-use Rattle.calendar.specs.Stored.{filled, poolAfter, headingsAfter}
+use Rattle.calendar.specs.Stored.{poolAfter, headingsAfter}
+use Rattle.calendar.specs.Lists.{filled}
 use Rattle.conversion.specs.declared.Conversion.{Conversion}
 use Rattle.conversion.specs.Answers.{answered}
 

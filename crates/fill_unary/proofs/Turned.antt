@@ -19,11 +19,10 @@ use Rattle.integers.proofs.Linear.{ints, _∴_}
 use Rattle.calendar.specs.Meaning.{Row, meant, empty}
 use Rattle.calendar.specs.Operation.{Operation}
 use Rattle.calendar.specs.Lists.{isSome, ifLabel}
-use Rattle.calendar.specs.Distance.{size}
 use Rattle.calendar.specs.Compute.{result, cellOf}
 use Rattle.calendar.specs.Limits.{inRange, poolLimit}
 use Rattle.calendar.specs.Sound.{sound}
-use Rattle.granules.proofs.Tests.{true≢false, ltb-iff, decided}
+use Rattle.granules.proofs.Tests.{ltb-iff, decided}
 use Rattle.cursors.proofs.Cursors.{cursor-at}
 use Rattle.algebra.proofs.Pointwise.{group-period}
 use Rattle.kinds.specs.declared.Kind.the-variants.{Group}

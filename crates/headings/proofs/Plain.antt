@@ -15,7 +15,8 @@ use Rattle.calendar.specs.Reply.{Reply, require}
 use Rattle.calendar.specs.Reply.Reply.{answer}
 use Rattle.calendar.specs.Outcome.{Outcome, outcome}
 use Rattle.calendar.specs.Outcome.Outcome.{refusedAt, rows}
-use Rattle.calendar.specs.Stored.{filled, headingsFrom, headingsAfter}
+use Rattle.calendar.specs.Stored.{headingsFrom, headingsAfter}
+use Rattle.calendar.specs.Lists.{filled}
 use Rattle.granules.proofs.Tests.{and-iff, leb-iff}
 use Rattle.algebra.specs.Agrees.{Agrees}
 use Rattle.algebra.specs.TableMeaning.TableReply.{means}

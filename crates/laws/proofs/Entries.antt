@@ -11,7 +11,8 @@ use Rattle.calendar.specs.Meaning.{Calendar}
 use Rattle.calendar.specs.Operation.{Operation, mapOperation}
 use Rattle.calendar.specs.Reply.Reply.{answer}
 use Rattle.calendar.specs.Table.{entryAt, named}
-use Rattle.algebra.specs.Ready.{Operands, Factor}
+use Rattle.algebra.specs.Ready.{Operands}
+use Rattle.algebra.specs.Factor.{Factor}
 use Rattle.algebra.specs.TableMeaning.{Meant, nothing, calendars, Judged, EntryJudged, Entries, TableMeans}
 use Rattle.algebra.specs.TableMeaning.Judged.{answered}
 use Rattle.algebra.specs.TableMeaning.EntryJudged.{read}

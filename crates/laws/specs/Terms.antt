@@ -5,7 +5,7 @@ use Prim.Native.Nat.{ℕ}
 use Rattle.calendar.specs.Meaning.{Calendar, Same, IsCalendar}
 use Rattle.calendar.specs.Operation.{Unary, Binary, Operation}
 use Rattle.calendar.specs.Algebra.{Result, FullOperands, Aligned, Emptied}
-use Rattle.algebra.specs.Ready.{Factor}
+use Rattle.algebra.specs.Factor.{Factor}
 
 -- an operand by number, or an operation over terms
 pub data Term : Type 0 where

@@ -12,7 +12,7 @@ ghost use Rattle.calendar.specs.Limits.{poolLimit};
 ghost use Rattle.calendar.specs.Questions.{given};
 ghost use Rattle.sizes.specs.Stored.{turnOf};
 ghost use Rattle.cursors.specs.Found.{Sound};
-ghost use Rattle.alignment.specs.Pass.{Spanned, Limited};
+ghost use Rattle.alignment.specs.Pass.{Limited};
 ghost use Rattle.operand_checks.specs.Admission.{admission, checkedOf};
 ghost use Rattle.operand_checks.specs.Shared as Shared;
 ghost use Rattle.operand_checks.specs.Shared.{IsRoom, turnFor, alignmentOf, overSpan};

@@ -8,7 +8,7 @@ use native.Mathlib.Omega.{arith}
 use lib.IntN.{ℤ, pos}
 use lib.ListN.{length, getD, set, replicate, length-append, length-replicate, length-set}
 use lib.Seq.{getD-set-same, getD-set-other, ext-getD}
-use Rattle.calendar.specs.Stored.{filled}
+use Rattle.calendar.specs.Lists.{filled}
 use Rattle.granules.proofs.Tests.{decided, eqb-iff}
 
 -- the numbers of l, and zeros behind them

@@ -13,7 +13,7 @@ use Rattle.calendar.specs.Reply.Reply.{refused, answer}
 use Rattle.calendar.specs.Granules.{has, granules}
 use Rattle.calendar.specs.Limits.{lateLimit, between, inRange}
 use Rattle.calendar.specs.Sound.{sound}
-use Rattle.calendar.specs.Stored.{filled}
+use Rattle.calendar.specs.Lists.{filled}
 use Rattle.calendar.specs.Questions.{labelledInstants, granuleLength}
 use Rattle.calendar.specs.Refusals.{numberOf}
 use Rattle.floats.specs.Figures.{Quotients}

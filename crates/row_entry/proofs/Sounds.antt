@@ -16,7 +16,8 @@ use Rattle.calendar.specs.Meaning.{Row}
 use Rattle.calendar.specs.Operation.{mapOperation}
 use Rattle.calendar.specs.Size.{turn, span, spanOf}
 use Rattle.calendar.specs.Sound.{sound}
-use Rattle.algebra.specs.Ready.{Operands, Factor}
+use Rattle.algebra.specs.Ready.{Operands}
+use Rattle.algebra.specs.Factor.{Factor}
 use Rattle.kinds.specs.declared.Kind.{Kind}
 use Rattle.kinds.specs.declared.Kind.the-variants.{Bottom, Group, Shift, Alter, Combine, Anchor, Select, ByLabels, Renumber}
 use Rattle.kinds.specs.Operations.{operationOf, operands, Numbers, SoundFirst}

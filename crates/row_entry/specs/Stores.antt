@@ -11,7 +11,8 @@ use Rattle.calendar.specs.Limits.{poolLimit, headingLength}
 use Rattle.calendar.specs.Reply.Reply.{refused, answer}
 use Rattle.calendar.specs.Table.{entryAt}
 use Rattle.calendar.specs.Outcome.{judged}
-use Rattle.calendar.specs.Stored.{joined, headingsFrom, filled}
+use Rattle.calendar.specs.Stored.{joined, headingsFrom}
+use Rattle.calendar.specs.Lists.{filled}
 use Rattle.row_entry.specs.declared.Entry.{Entry}
 use Rattle.row_entry.specs.declared.Entry.the-variants.{Refused, Ends}
 

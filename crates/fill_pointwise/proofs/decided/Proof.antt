@@ -1,7 +1,7 @@
 -- `fill_pointwise::decided` meets its contract.
 -- Assumes nothing.
 use borrow.Author.Needs.{needs}
-use mathlib.Core.Path.{_≡_, sym, _∙_, ap}
+use mathlib.Core.Path.{sym, _∙_, ap}
 use mathlib.Core.Option.{Option, some}
 use lib.IntN.{ℤ}
 use mir.Facts.{toZ-ofZ}

@@ -1,7 +1,7 @@
 -- `fill_pointwise::later` meets its contract.
 -- Assumes nothing.
 use borrow.Author.Needs.{needs, sfits-of}
-use mathlib.Core.Path.{_≡_, sym, _∙_, ap}
+use mathlib.Core.Path.{sym, _∙_, ap}
 use mir.Facts.{toZ-ofZ}
 use Rattle.cursors.specs.declared.Found.{Found}
 use Rattle.cursors.specs.Found.{found}

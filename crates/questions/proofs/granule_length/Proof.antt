@@ -103,8 +103,8 @@ cast-result c = let s = c .before .before in cast (length s) (read c) (omega (ar
 returns : tie.Need-returns
 returns c j e = let s = c .before .before in ap natAbs (read c) ∙ ap (granuleLength (row s)) (some-inj (sym (s .pre .1 .0 .1) ∙ e))
 
-pub granule_length-spec : {M : Type 1} → statement M
-granule_length-spec =
+pub granule-length-spec : {M : Type 1} → statement M
+granule-length-spec =
     tie.close
     (tie.spec
     first-instant-requires
