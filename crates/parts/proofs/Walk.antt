@@ -3,6 +3,7 @@
 use mathlib.Core.Path.{_≡_, refl, sym, _∙_, ap}
 use mathlib.Core.Logic.{_⊎_, inl, inr, ⊎-elim}
 use mathlib.Core.Option.{none, some}
+use mathlib.Core.Bool.{true}
 use mathlib.Core.List.{List, [], _∷_, _++_, List·Memᴰ, List·Memᴰ·head, List·Memᴰ·not-nil, List·Memᴰ·append-cases, List·Memᴰ·eq-of-singleton, List·Memᴰ·tail, Memᴰ·append-left, Memᴰ·append-right}
 use Prim.Native.Nat.{ℕ, _+_, _<_, _≤_}
 use native.Mathlib.Omega.{arith}
@@ -22,9 +23,9 @@ use Rattle.granules.proofs.Rows.{meant-repeats}
 use Rattle.cursors.specs.declared.Cursor.{Cursor}
 use Rattle.cursors.specs.Cursor.{cursorAt}
 use Rattle.containment.specs.First.{FirstInstant}
-use Rattle.parts.specs.Walk.{Greatest}
+use Rattle.parts.specs.Walk.{Nearest}
 use Rattle.parts.proofs.Shown.{Shows}
-use Rattle.parts.proofs.WalkGaps.{ahead}
+use Rattle.granule_ends.proofs.Walks.{ahead}
 
 -- k is the label in g of an instant of the granule z of h up to u
 abbrev pub Seen : Row → Row → ℤ → ℤ → ℤ → Type 0
@@ -87,7 +88,7 @@ empty-of [] j e m = List·Memᴰ·not-nil m
 empty-of (x ∷ l) j e m = omega arith
 
 module _ {h g : Row} (v : Valid h) (w : Valid g) {z t : ℤ} (b : FirstInstant h z t) where
-  pub walk-start : {n : ℕ} {p : List ℤ} {u : ℤ} {a d : Cursor} {o : ℤ} → length p ≡ n → Shows p [] → a ≡ cursorAt h u → d ≡ cursorAt g u → u ≡ t -ℤ pos 1 → Greatest g u o
+  pub walk-start : {n : ℕ} {p : List ℤ} {u : ℤ} {a d : Cursor} {o : ℤ} → length p ≡ n → Shows p [] → a ≡ cursorAt h u → d ≡ cursorAt g u → u ≡ t -ℤ pos 1 → Nearest true g u o
       → Walk h g z t n p u a d 0 o o
   walk-start l s ha ga e m = record {
     h-cursor = ha;
@@ -101,7 +102,7 @@ module _ {h g : Row} (v : Valid h) (w : Valid g) {z t : ℤ} (b : FirstInstant h
     };
     covered = λ x p q. absurd (b .least x p ∴ q ∴ e ∴ simp ints (omega arith));
     closed = λ k m. absurd (List·Memᴰ·not-nil m);
-    outer = record { at = m .at; label = m .label; up-to = m .up-to; out = λ p. b .least (m .at) p ∴ m .up-to ∴ e ∴ simp ints (omega arith); most = λ x j p f _. m .most x j p f };
+    outer = record { at = m .at; label = m .label; up-to = m .from ∴ simp ints (omega arith); out = λ p. b .least (m .at) p ∴ m .from ∴ e ∴ simp ints (omega arith); most = λ x j p f _. m .nearest x j (p ∴ simp ints (omega arith)) f ∴ simp ints (omega arith) };
     count-is = refl;
     last = inl (refl, e, refl);
     few = e ∴ simp ints (omega arith);

@@ -26,7 +26,7 @@ use Rattle.parts.specs.declared.Part.the-variants.{Broken}
 use Rattle.parts.specs.declared.Walked.{Walked}
 use Rattle.parts.specs.declared.Walked.the-variants.{Parts, Incomplete}
 use Rattle.containment.specs.First.{FirstInstant}
-use Rattle.parts.specs.Walk.{Least, PartAt, EndAt, PartsOf}
+use Rattle.parts.specs.Walk.{Nearest, PartAt, EndAt, PartsOf}
 use Rattle.parts.proofs.Shown.{Shows}
 use Rattle.parts.proofs.Walk.{Walk, has-part}
 
@@ -59,19 +59,19 @@ module _ {h g : Row} (v : Valid h) (w : Valid g) {z t : ℤ} (b : FirstInstant h
       is-part = part-seen (λ y. other (some-inj (sym e ∙ y)))
 
       -- the latest part goes on
-      goes-on : Least g u′ latest → madeUp h g z ≡ false
+      goes-on : Nearest false g u′ latest → madeUp h g z ≡ false
       goes-on l =
           let s = is-part in
           apart (s .0) (l .at) latest (s .1) (s .3) (λ y. all-seen (l .at) y ∴ l .from ∴ step ∴ simp ints (omega arith)) (l .label)
 
       -- the latest part does not
-      module _ (i : ℤ) (l : Least g u′ i) (past : i ≡ latest → ⊥) where
+      module _ (i : ℤ) (l : Nearest false g u′ i) (past : i ≡ latest → ⊥) where
         inner : (k : ℤ) → List·Memᴰ k (c .seen) → Inside (meant g) k (meant h) z
         inner k m x y = ⊎-elim (λ (q : x ≤ℤ u). c .closed k m x q y) (λ (q : u <ℤ x). absurd (past (≤ℤ-antisym (few q) many))) (le-or-lt x u)
           where
             few : u <ℤ x → i ≤ℤ latest
             few q =
-                l .fewest x k (q ∴ step ∴ simp ints (omega arith)) y
+                l .nearest x k (q ∴ step ∴ simp ints (omega arith)) y
                 ∴ has-part v w b c next beside step (λ y. other (some-inj (sym e ∙ y))) .1 k m
                 ∴ simp ints (omega arith)
 

@@ -2,7 +2,7 @@
 use mathlib.Core.Path.{_≡_}
 use mathlib.Core.Logic.{_⊎_}
 use mathlib.Core.Option.{Option, none, some}
-use mathlib.Core.Bool.{true, false}
+use mathlib.Core.Bool.{Bool, true, false}
 use mathlib.Core.List.{List}
 use Prim.Native.Nat.{ℕ, _<_, _^_}
 use lib.IntN.{ℤ, pos}
@@ -14,6 +14,7 @@ use Rattle.calendar.specs.Questions.{madeUp}
 use Rattle.cursors.specs.declared.Cursor.{Cursor}
 use Rattle.cursors.specs.Found.{Within}
 use Rattle.cursors.specs.Cursor.{cursorAt}
+use Rattle.cursors.specs.Direction.{away}
 use Rattle.containment.specs.Places.{instant}
 use Rattle.parts.specs.declared.Part as Part
 use Rattle.parts.specs.declared.Walked as Walked
@@ -22,19 +23,12 @@ use Rattle.parts.specs.declared.Walked as Walked
 abbrev pub Roomy : Row → Cursor → Type 0
 Roomy r c = Within (2 ^ 59) (instant r c) × (c ≡ cursorAt r (instant r c))
 
--- k is the greatest label up to u, which is that of the last instant with one
-pub record Greatest (r : Row) (u k : ℤ) : Type 0 where
+-- k is the label of the nearest instant with one, back from u or on: no label on the way from u is on the near side of it
+pub record Nearest (back : Bool) (r : Row) (u k : ℤ) : Type 0 where
   pub at : ℤ
   pub label : meant r at ≡ some k
-  pub up-to : at ≤ℤ u
-  pub most : (w j : ℤ) → w ≤ℤ u → meant r w ≡ some j → j ≤ℤ k
-
--- k is the least label from u on, which is that of the first instant with one
-pub record Least (r : Row) (u k : ℤ) : Type 0 where
-  pub at : ℤ
-  pub label : meant r at ≡ some k
-  pub from : u ≤ℤ at
-  pub fewest : (w j : ℤ) → u ≤ℤ w → meant r w ≡ some j → k ≤ℤ j
+  pub from : pos 0 ≤ℤ away back u at
+  pub nearest : (w j : ℤ) → pos 0 ≤ℤ away back u w → meant r w ≡ some j → pos 0 ≤ℤ away back k j
 
 -- what an instant with the labels x in h and y in g says of the parts of the granule z of h: o is the last label of g outside the granule before it, and
 -- k the latest part, which is o as long as there is none
@@ -45,10 +39,10 @@ PartAt z x y o k (Part.the-variants.Next j) = (x ≡ some z) × ((y ≡ some j) 
 PartAt z x y o k Part.the-variants.End = (j : ℤ) × (x ≡ some j) × (j ≡ z → ⊥)
 PartAt z x y o k Part.the-variants.Broken = ((x ≡ some z) × ((y ≡ none) ⊎ (y ≡ some o))) ⊎ ((x ≡ none) × (y ≡ some k))
 
--- what a walk finds where the granule is over, at u: the parts so far, of which k is the latest, unless that is the least label of g from there on
+-- what a walk finds where the granule is over, at u: the parts so far, of which k is the latest, unless that is the nearest label of g from there on
 abbrev pub EndAt : Row → ℤ → ℕ → ℤ → Walked.Walked → Type 0
-EndAt g u count k (Walked.the-variants.Parts n) = (n ≡ count) × ((j : ℤ) × Least g u j × (j ≡ k → ⊥))
-EndAt g u count k Walked.the-variants.Incomplete = Least g u k
+EndAt g u count k (Walked.the-variants.Parts n) = (n ≡ count) × ((j : ℤ) × Nearest false g u j × (j ≡ k → ⊥))
+EndAt g u count k Walked.the-variants.Incomplete = Nearest false g u k
 
 -- the parts of the granule z: how many there are, and those that the list l has room for, with zeros behind them
 abbrev pub PartsOf : Row → Row → ℤ → List ℤ → Walked.Walked → Type 0

@@ -7,7 +7,7 @@ ghost use Rattle.calendar.specs.Questions.{given};
 ghost use Rattle.cursors.specs.Found.{found, Sound};
 ghost use Rattle.containment.specs.Places.{instant};
 ghost use Rattle.containment.specs.First.{FirstInstant};
-ghost use Rattle.parts.specs.Walk.{Roomy, Greatest, PartAt, EndAt, PartsOf};
+ghost use Rattle.parts.specs.Walk.{Roomy, Nearest, PartAt, EndAt, PartsOf};
 use cursors::Cursor;
 use cursors::Found;
 
@@ -27,11 +27,11 @@ pub enum Walked {
     Incomplete,
 }
 
-// The label of the last instant up to the cursor's that has one: the greatest up to there.
-fn label_up_to(cells: &[i32], period: i64, distance: i64, from: Cursor) -> i64
+// The label of the nearest instant that has one, from the cursor's, back or on.
+fn nearest_label(back: bool, cells: &[i32], period: i64, distance: i64, from: Cursor) -> i64
     requires { ⌜ Sound period distance (now cells) ⌝ }
     requires { ⌜ Roomy (given period distance (now cells)) from ⌝ }
-    ensures { λ r. ⌜ Greatest (given period distance (now (cells .entry))) (instant (given period distance (now (cells .entry))) from) r ⌝ }
+    ensures { λ r. ⌜ Nearest back (given period distance (now (cells .entry))) (instant (given period distance (now (cells .entry))) from) r ⌝ }
 {
     let mut c = from;
     loop {
@@ -39,7 +39,7 @@ fn label_up_to(cells: &[i32], period: i64, distance: i64, from: Cursor) -> i64
         if let Found::At(j) = label {
             return j;
         }
-        c = cursors::cursor_back(cells, period, distance, c);
+        c = cursors::cursor_step(back, cells, period, distance, c);
     }
 }
 
@@ -57,17 +57,11 @@ fn ended(
     requires { ⌜ Roomy (given period distance (now cells)) from ⌝ }
     ensures { λ r. ⌜ EndAt (given period distance (now (cells .entry))) (instant (given period distance (now (cells .entry))) from) count latest r ⌝ }
 {
-    let mut c = from;
-    loop {
-        let label = cursors::cursor_label(cells, period, distance, c);
-        if let Found::At(k) = label {
-            if k == latest {
-                return Walked::Incomplete;
-            }
-            return Walked::Parts(count);
-        }
-        c = cursors::cursor_next(cells, period, distance, c);
+    let next = nearest_label(false, cells, period, distance, from);
+    if next == latest {
+        return Walked::Incomplete;
     }
+    Walked::Parts(count)
 }
 
 // What an instant says of the parts of h's granule z, by its label in h, `own`, and in g. The latest part is `latest`, and `outside` is the last
@@ -122,7 +116,7 @@ pub fn parts_of(
     let before = first - 1;
     let mut h = cursors::cursor_at(h_cells, h_period, h_distance, before);
     let mut g = cursors::cursor_at(g_cells, g_period, g_distance, before);
-    let mut outside = label_up_to(g_cells, g_period, g_distance, g);
+    let mut outside = nearest_label(true, g_cells, g_period, g_distance, g);
     let mut latest = outside;
     let mut count: usize = 0;
     loop {

@@ -20,10 +20,10 @@ use Rattle.parts.specs.declared.Part.the-variants.{Next, Outside}
 use Rattle.parts.specs.declared.Walked.the-variants.{Incomplete}
 use Rattle.parts.specs.Walk.{EndAt}
 use Rattle.parts.proofs.Shown.{Shows, shows-past, shows-more}
-use Rattle.parts.proofs.WalkGaps.{placed}
+use Rattle.parts.proofs.WalkGaps.{roomy}
 use Rattle.parts.proofs.Walk.{walk-few, walk-past, walk-outside, walk-same, walk-next}
 use Rattle.parts.proofs.WalkEnds.{walk-broken, walk-ended}
-use Rattle.parts.proofs.parts_of.Proof.Begun.{Inv-loop, μ-loop, g-row, h-sound, g-sound, Walking, h-rules, g-rules, begins, plainly, sub-before, cursor-at-requires, cursor-at-requires-2, label-up-to-requires, loop-holds}
+use Rattle.parts.proofs.parts_of.Proof.Begun.{Inv-loop, μ-loop, g-row, h-sound, g-sound, Walking, h-rules, g-rules, begins, plainly, sub-before, cursor-at-requires, cursor-at-requires-2, nearest-label-requires, loop-holds}
 use Rattle.parts.proofs.parts_of.Proof.Step.{begun, cursor-next-requires, cursor-next-requires-2, next, next-is, near-next, h-next, g-next, cursor-label-requires, cursor-label-requires-2, at-next, at-loop, start, Says, says, less}
 use Rattle.parts.proofs.parts_of.Statement.{statement}
 use Rattle.parts.proofs.parts_of.Tie as tie
@@ -147,7 +147,7 @@ ended-requires : tie.Need-ended-requires Inv-loop μ-loop
 ended-requires c κs =
     let n = at-next (c .before .before) in
     let s = begun (n .before .before) in
-    (g-sound s, placed (g-row s) (g-rules s) (n .cursor-next2 .result) (next n) (g-next n) (near-next n))
+    (g-sound s, roomy (g-row s) (g-rules s) (n .cursor-next2 .result) (next n) (g-next n) (near-next n))
 
 same-length : tie.Need-same-length Inv-loop μ-loop
 same-length c = at-loop (c .before .before .before) .loop .inv .whole
@@ -185,7 +185,7 @@ parts-of-spec =
     sub-before
     cursor-at-requires
     cursor-at-requires-2
-    label-up-to-requires
+    nearest-label-requires
     loop-holds
     cursor-next-requires
     cursor-next-requires-2

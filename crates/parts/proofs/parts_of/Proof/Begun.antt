@@ -2,6 +2,7 @@
 -- Assumes nothing.
 use borrow.Author.Needs.{sfits-of}
 use mathlib.Core.Path.{_≡_, refl, sym, _∙_, ap, subst₂}
+use mathlib.Core.Bool.{true}
 use mathlib.Core.List.{List}
 use Prim.Native.Nat.{ℕ, _^_}
 use native.Mathlib.Omega.{arith}
@@ -23,10 +24,11 @@ use Rattle.cursors.proofs.Numbers.{valid}
 use Rattle.containment.specs.Places.{instant}
 use Rattle.containment.proofs.Places.{instant-is}
 use Rattle.parts.specs.declared.Walked.{Walked}
+use Rattle.granule_ends.proofs.Walks.{ahead}
 use Rattle.containment.specs.First.{FirstInstant}
-use Rattle.parts.specs.Walk.{Greatest, PartsOf}
+use Rattle.parts.specs.Walk.{Nearest, PartsOf}
 use Rattle.parts.proofs.Shown.{shows-nothing}
-use Rattle.parts.proofs.WalkGaps.{ahead, placed}
+use Rattle.parts.proofs.WalkGaps.{roomy}
 use Rattle.parts.proofs.Walk.{Walk, walk-start}
 use Rattle.parts.proofs.parts_of.Tie as tie
 
@@ -117,8 +119,8 @@ cursor-at-requires s κs = (h-sound s, wide (zeroth s) (near-zeroth s))
 pub cursor-at-requires-2 : tie.Need-cursor-at-requires-2 Inv-loop μ-loop
 cursor-at-requires-2 c κs = let s = c .before in (g-sound s, wide (zeroth s) (near-zeroth s))
 
-pub label-up-to-requires : tie.Need-label-up-to-requires Inv-loop μ-loop
-label-up-to-requires c κs = let s = c .before .before in (g-sound s, placed (g-row s) (g-rules s) (c .cursor-at2 .result) (zeroth s) (c .cursor-at2 .ensures) (near-zeroth s))
+pub nearest-label-requires : tie.Need-nearest-label-requires Inv-loop μ-loop
+nearest-label-requires c κs = let s = c .before .before in (g-sound s, roomy (g-row s) (g-rules s) (c .cursor-at2 .result) (zeroth s) (c .cursor-at2 .ensures) (near-zeroth s))
 
 pub loop-holds : tie.Need-loop-holds Inv-loop μ-loop
 loop-holds c =
@@ -126,7 +128,7 @@ loop-holds c =
     let a = c .before .before .cursor-at in
     let d = c .before .cursor-at2 in
     let e = sym (instant-is (h-row s) (h-rules s) (a .result) (zeroth s) (a .ensures)) in
-    let f : SFits w64 (c .label-up-to .result) = sfits-of (c .label-up-to .ok) in
+    let f : SFits w64 (c .nearest-label .result) = sfits-of (c .nearest-label .ok) in
     let i = instant-is (g-row s) (g-rules s) (d .result) (zeroth s) (d .ensures) in
     walk-start (h-rules s) (g-rules s) (begins s) refl (shows-nothing _ (s .pre .1 .1 .1)) (a .ensures ∙ ap (cursorAt (h-row s)) e) (d .ensures ∙ ap (cursorAt (g-row s)) e) (sym e ∙ zeroth-is s)
-    (subst₂ (Greatest (g-row s)) (i ∙ e) (sym (toZ-ofZ f)) (c .label-up-to .ensures))
+    (subst₂ (Nearest true (g-row s)) (i ∙ e) (sym (toZ-ofZ f)) (c .nearest-label .ensures))

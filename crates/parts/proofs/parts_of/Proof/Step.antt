@@ -17,7 +17,7 @@ use Rattle.containment.specs.Places.{instant}
 use Rattle.containment.proofs.Places.{instant-is}
 use Rattle.parts.specs.declared.Part.{Part}
 use Rattle.parts.specs.Walk.{PartAt}
-use Rattle.parts.proofs.WalkGaps.{ahead}
+use Rattle.granule_ends.proofs.Walks.{ahead}
 use Rattle.parts.proofs.Walk.{walk-less}
 use Rattle.parts.proofs.parts_of.Proof.Begun.{Inv-loop, μ-loop, Start, Z, T, h-row, g-row, h-sound, g-sound, h-rules, g-rules, begins, wide}
 use Rattle.parts.proofs.parts_of.Tie as tie

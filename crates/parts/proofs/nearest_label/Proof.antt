@@ -1,37 +1,38 @@
--- `parts::label_up_to` meets its contract: it is a walk back over a gap.
+-- `parts::nearest_label` meets its contract: it is a walk over a gap.
 -- Assumes nothing.
 use borrow.Author.Needs.{needs, sfits-of}
 use mathlib.Core.Path.{_≡_, sym, _∙_, ap}
 use mathlib.Core.Option.{none}
-use native.Mathlib.Omega.{arith}
-use lib.IntN.{ℤ, pos, _-ℤ_}
+use lib.IntN.{ℤ}
 use mir.Syntax.{w64}
 use mir.Val.{toZ, ofZ, SFits}
 use Rattle.integers.specs.Parts.{up}
-use Rattle.integers.proofs.Linear.{ints, _∴_}
 use Rattle.integers.proofs.Machine.{plain}
 use Rattle.calendar.specs.Meaning.{Row, meant}
 use Rattle.calendar.specs.Questions.{given}
 use Rattle.granules.specs.Valid.{Valid}
 use Rattle.cursors.specs.Found.{Sound, Near, found}
 use Rattle.cursors.specs.Cursor.{cursorAt}
+use Rattle.cursors.specs.Direction.{stepped}
 use Rattle.cursors.proofs.Numbers.{numbers, valid}
+use Rattle.cursors.proofs.Direction.{away-near}
+use Rattle.granule_ends.proofs.Walks.{left}
 use Rattle.containment.specs.Places.{instant}
 use Rattle.containment.proofs.Places.{instant-is}
 use Rattle.parts.specs.Walk.{Roomy}
-use Rattle.parts.proofs.WalkGaps.{GapBack, behind, back-start, back-label, back-step, back-less}
-use Rattle.parts.proofs.label_up_to.Statement.{statement}
-use Rattle.parts.proofs.label_up_to.Tie as tie
+use Rattle.parts.proofs.WalkGaps.{Gap, gap-start, gap-label, gap-step, gap-less}
+use Rattle.parts.proofs.nearest_label.Statement.{statement}
+use Rattle.parts.proofs.nearest_label.Tie as tie
 
 abbrev Inv-loop : tie.InvT-loop
-Inv-loop cells period distance c₀ c =
+Inv-loop back cells period distance c₀ c =
     let r = given (toZ w64 period) (toZ w64 distance) cells in
-    GapBack r (instant r c₀) c (instant r c)
+    Gap back r (instant r c₀) c (instant r c)
 
 abbrev μ-loop : tie.MeasureT-loop
-μ-loop cells period distance c₀ c =
+μ-loop back cells period distance c₀ c =
     let r = given (toZ w64 period) (toZ w64 distance) cells in
-    behind (up (toZ w64 period)) (instant r c₀) (instant r c)
+    left back (up (toZ w64 period)) (instant r c₀) (instant r c)
 
 -- the row as the machine has it
 abbrev Start : Type 0
@@ -52,8 +53,8 @@ sound s =
     let d = s .fits .distance in
     simp plain (s .pre .0)
 
-placed : (s : Start) → Roomy (row s) (s .args .from)
-placed s =
+roomy : (s : Start) → Roomy (row s) (s .args .from)
+roomy s =
     let p = s .fits .period in
     let d = s .fits .distance in
     simp plain (s .pre .1)
@@ -65,7 +66,7 @@ abbrev begin : Start → ℤ
 begin s = instant (row s) (s .args .from)
 
 loop-holds : tie.Need-loop-holds Inv-loop μ-loop
-loop-holds s = back-start (row s) (rules s) (begin s) (s .args .from) (placed s .1)
+loop-holds s = gap-start (s .args .back) (row s) (rules s) (begin s) (s .args .from) (roomy s .1)
 
 -- where the walk is
 abbrev here : tie.At-loop Inv-loop μ-loop → ℤ
@@ -75,7 +76,7 @@ near : (c : tie.At-loop Inv-loop μ-loop) → Near (here c)
 near c =
     let s = c .before in
     let n = numbers (P s) (N s) (s .args .cells .now) (sound s) in
-    placed s .0 ∴ n .high ∴ c .loop .inv .low ∴ c .loop .inv .high ∴ simp ints (omega arith)
+    away-near (s .args .back) _ _ _ (roomy s .0) (n .high) (c .loop .inv .low) (c .loop .inv .high) .0
 
 cursor-label-requires : tie.Need-cursor-label-requires Inv-loop μ-loop
 cursor-label-requires c κs = (sound (c .before), (here c, near c, c .loop .inv .cursor))
@@ -100,39 +101,39 @@ returns c =
     let p = s .fits .period in
     let d = s .fits .distance in
     let k = label-fits c in
-    let x = back-label (row s) (rules s) (begin s) (l .before .loop .c) (here (l .before)) (l .before .loop .inv) _ (label-is l ∙ ap found (c .before .label .given .1)) in
+    let x = gap-label (s .args .back) (row s) (rules s) (begin s) (l .before .loop .c) (here (l .before)) (l .before .loop .inv) _ (label-is l ∙ ap found (c .before .label .given .1)) in
     simp plain (simp plain at x)
 
 -- none
-cursor-back-requires : tie.Need-cursor-back-requires Inv-loop μ-loop
-cursor-back-requires c κs = let l = c .before .before .before in (sound (l .before), (here l, near l, l .loop .inv .cursor))
+cursor-step-requires : tie.Need-cursor-step-requires Inv-loop μ-loop
+cursor-step-requires c κs = let l = c .before .before .before in (sound (l .before), (here l, near l, l .loop .inv .cursor))
 
-abbrev next : tie.After-cursor-back Inv-loop μ-loop → ℤ
-next c = instant (row (c .before .before .before .before .before)) (c .cursor-back .result)
+abbrev next : tie.After-cursor-step Inv-loop μ-loop → ℤ
+next c = instant (row (c .before .before .before .before .before)) (c .cursor-step .result)
 
-stepped : (c : tie.After-cursor-back Inv-loop μ-loop) → let l = c .before .before .before .before in c .cursor-back .result ≡ cursorAt (row (l .before)) (here l -ℤ pos 1)
-stepped c = let l = c .before .before .before .before in c .cursor-back .ensures (here l) (l .loop .inv .cursor)
+moved : (c : tie.After-cursor-step Inv-loop μ-loop) → let l = c .before .before .before .before in c .cursor-step .result ≡ cursorAt (row (l .before)) (stepped (l .before .args .back) (here l))
+moved c = let l = c .before .before .before .before in c .cursor-step .ensures (here l) (l .loop .inv .cursor)
 
-next-is : (c : tie.After-cursor-back Inv-loop μ-loop) → next c ≡ here (c .before .before .before .before) -ℤ pos 1
-next-is c = let s = c .before .before .before .before .before in instant-is (row s) (rules s) (c .cursor-back .result) _ (stepped c)
+next-is : (c : tie.After-cursor-step Inv-loop μ-loop) → next c ≡ stepped (c .before .before .before .before .before .args .back) (here (c .before .before .before .before))
+next-is c = let s = c .before .before .before .before .before in instant-is (row s) (rules s) (c .cursor-step .result) _ (moved c)
 
-no-label : (c : tie.After-cursor-back Inv-loop μ-loop) → let l = c .before .before .before .before in meant (row (l .before)) (here l) ≡ none
+no-label : (c : tie.After-cursor-step Inv-loop μ-loop) → let l = c .before .before .before .before in meant (row (l .before)) (here l) ≡ none
 no-label c = label-is (c .before .before .before) ∙ ap found (c .before .enum-told .given .1)
 
 loop-less : tie.Need-loop-less Inv-loop μ-loop
 loop-less c =
     let l = c .before .before .before .before in
     let s = l .before in
-    back-less (row s) (rules s) (begin s) (l .loop .c) (here l) (l .loop .inv) (no-label c) (c .cursor-back .result) (next c) (stepped c ∙ ap (cursorAt (row s)) (sym (next-is c))) (next-is c)
+    gap-less (s .args .back) (row s) (rules s) (begin s) (l .loop .c) (here l) (l .loop .inv) (no-label c) (c .cursor-step .result) (next c) (moved c ∙ ap (cursorAt (row s)) (sym (next-is c))) (next-is c)
 
 loop-again : tie.Need-loop-again Inv-loop μ-loop
 loop-again c =
     let l = c .before .before .before .before in
     let s = l .before in
-    back-step (row s) (rules s) (begin s) (l .loop .c) (here l) (l .loop .inv) (no-label c) (c .cursor-back .result) (next c) (stepped c ∙ ap (cursorAt (row s)) (sym (next-is c))) (next-is c)
+    gap-step (s .args .back) (row s) (rules s) (begin s) (l .loop .c) (here l) (l .loop .inv) (no-label c) (c .cursor-step .result) (next c) (moved c ∙ ap (cursorAt (row s)) (sym (next-is c))) (next-is c)
 
-pub label-up-to-spec : {M : Type 1} → statement M
-label-up-to-spec =
+pub nearest-label-spec : {M : Type 1} → statement M
+nearest-label-spec =
     tie.close
     (tie.spec
     Inv-loop
@@ -142,6 +143,6 @@ label-up-to-spec =
     enum-known-label
     returns
     enum-told
-    cursor-back-requires
+    cursor-step-requires
     loop-less
     loop-again)
