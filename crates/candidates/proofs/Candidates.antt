@@ -4,7 +4,7 @@ use mathlib.Core.Path.{_≡_, refl, sym, _∙_, ap}
 use mathlib.Core.Logic.{_⊎_, inl, inr, ⊎-elim}
 use mathlib.Core.Option.{none, some}
 use mathlib.Core.Bool.{Bool, true, false}
-use mathlib.Core.List.{List, [], _∷_, _++_, List·Memᴰ, List·Memᴰ·head, List·Memᴰ·tail, List·Memᴰ·not-nil, List·Memᴰ·append-cases, List·Memᴰ·eq-of-singleton, Memᴰ·append-left, Memᴰ·append-right}
+use mathlib.Core.List.{List, [], _∷_, _++_, List·Memᴰ, List·Memᴰ·head, List·Memᴰ·not-nil, List·Memᴰ·append-cases, List·Memᴰ·eq-of-singleton, Memᴰ·append-left, Memᴰ·append-right}
 use Prim.Native.Nat.{_<_, _≤_}
 use native.Mathlib.Omega.{arith}
 use lib.IntN.{ℤ, pos, _+ℤ_, _-ℤ_, _*ℤ_}
@@ -14,10 +14,10 @@ use Rattle.integers.proofs.Linear.{ints, _∴_}
 use Rattle.integers.proofs.Order.{≤ℤ-antisym, le-or-lt, up-less, Cases, cases}
 use Rattle.integers.proofs.Order.Cases.{below, equal, above}
 use Rattle.calendar.specs.Meaning.{Row, meant, Meets}
-use Rattle.calendar.specs.Algebra.{Rising, Lists, positions}
+use Rattle.calendar.specs.Algebra.{Lists, positions}
 use Rattle.granules.specs.Valid.{Valid}
 use Rattle.granules.proofs.Tests.{some-inj, none≢some, true≢false}
-use Rattle.granules.proofs.Lists.{rising-cons, rising-head, rising-tail, lists-unique}
+use Rattle.granules.proofs.Lists.{rising-more, front-of, lists-unique}
 use Rattle.granules.proofs.Calendars.{label-moved}
 use Rattle.granules.proofs.Rows.{meant-repeats}
 use Rattle.granules.proofs.Inside.{inside-iff, meeting-lists, within-lists}
@@ -27,7 +27,7 @@ use Rattle.granule_ends.proofs.Walks.{ahead}
 use Rattle.containment.specs.First.{FirstInstant}
 use Rattle.candidates.specs.declared.Tally.{Tally}
 use Rattle.candidates.specs.Tallies.{candidates, counts, New, tallyOf}
-use Rattle.candidates.proofs.Positions.{front-of, positions-front}
+use Rattle.candidates.proofs.Positions.{positions-front}
 use Rattle.candidates.proofs.Tallying.{tally-fields, tally-alike}
 
 -- ---- the granules in question
@@ -84,14 +84,6 @@ walk-few whole a b i t lo hi u c d looked latest r w =
 
 <≤ℤ : {x y z : ℤ} → x <ℤ y → y ≤ℤ z → x ≤ℤ z
 <≤ℤ h k = h ∴ k ∴ simp ints (omega arith)
-
--- one more behind a rising list
-rising-more : (l : List ℤ) (k : ℤ) → Rising l → ((j : ℤ) → List·Memᴰ j l → j <ℤ k) → Rising (l ++ (k ∷ []))
-rising-more [] k r h = tt
-rising-more (x ∷ l) k r h =
-    rising-cons x (l ++ (k ∷ []))
-    (λ j m. ⊎-elim (λ (n : List·Memᴰ j l). rising-head x l r j n) (λ (n : List·Memᴰ j (k ∷ [])). h x (List·Memᴰ·head refl) ∴ List·Memᴰ·eq-of-singleton n ∴ simp ints (omega arith)) (List·Memᴰ·append-cases l m))
-    (rising-more l k (rising-tail x l r) (λ j m. h j (List·Memᴰ·tail m)))
 
 module _ (whole : Bool) (a b : Row) (v : Valid a) (w : Valid b) (i t lo hi : ℤ) (g : FirstInstant b i t) where
   pub walk-start : (c d : Cursor) (k : ℤ) (r : Tally) → c ≡ cursorAt a t → d ≡ cursorAt b t → r ≡ tallyOf lo hi [] → Walk whole a b i t lo hi t c d false k r

@@ -1,6 +1,6 @@
 -- The members of a rising list at positions in a row: those from the first to the last of them.
 -- Assumes nothing.
-use mathlib.Core.Path.{_≡_, refl, sym, ap, ap₂}
+use mathlib.Core.Path.{_≡_, refl, ap}
 use mathlib.Core.Logic.{_↔_, _⊎_, inl, inr, ⊎-elim, ⊎-map}
 use mathlib.Core.Bool.{Bool, true, false, cond, _&&_}
 use mathlib.Core.List.{List, [], _∷_, _++_, List·Memᴰ, List·Memᴰ·head, List·Memᴰ·tail, List·Memᴰ·not-nil, List·Memᴰ·cases-cons}
@@ -12,8 +12,8 @@ use Rattle.integers.proofs.Linear.{ints, _∴_}
 use Rattle.integers.proofs.Order.{le-or-lt}
 use Rattle.calendar.specs.Algebra.{Rising, positions}
 use Rattle.calendar.specs.Lists.{any, equal}
-use Rattle.granules.proofs.Tests.{true≢false, and-iff, test-ext, equal-iff, leZ-iff}
-use Rattle.granules.proofs.Lists.{any-iff, rising-head, rising-tail, rising-cons, first-least, last-greatest}
+use Rattle.granules.proofs.Tests.{true≢false, and-iff, test-ext, leZ-iff}
+use Rattle.granules.proofs.Lists.{member-iff, rising-head, rising-tail, rising-cons, first-least, last-greatest}
 use Rattle.candidates.specs.Tallies.{firstOr, lastOr}
 
 -- the position p is one of those from lo to hi
@@ -126,51 +126,7 @@ module _ (lo hi : ℤ) where
       let k = some-taken (p +ℤ pos 1) (y ∷ l) (simp ints (omega arith)) (g ∴ simp ints (omega arith)) (h ∴ simp ints (omega arith)) in
       (k .0, taken-cons p (k .0) x (y ∷ l) .1 (inr (k .1)))
 
--- ---- fronts
-
--- a rising list whose members are those of another one up to some of them is a front of it
-pub front-of : (l m : List ℤ) → Rising l → Rising m → ((k : ℤ) → List·Memᴰ k l → List·Memᴰ k m)
-    → ((k j : ℤ) → List·Memᴰ k m → List·Memᴰ j l → k ≤ℤ j → List·Memᴰ k l) → (n : List ℤ) × (m ≡ l ++ n)
-front-of [] m r s f g = (m, refl)
-front-of (x ∷ l) [] r s f g = absurd (List·Memᴰ·not-nil (f x (List·Memᴰ·head refl)))
-front-of (x ∷ l) (y ∷ m) r s f g =
-    let n = front-of l m (rising-tail x l r) (rising-tail y m s) inner outer in
-    (n .0, ap₂ (λ (z : ℤ) (o : List ℤ). z ∷ o) (sym same) (n .1))
-  where
-    least : (z : ℤ) → List·Memᴰ z (y ∷ m) → y ≤ℤ z
-    least z o = ⊎-elim (λ (e : z ≡ y). e ∴ simp ints (omega arith)) (λ (o : List·Memᴰ z m). rising-head y m s z o ∴ simp ints (omega arith)) (List·Memᴰ·cases-cons o)
-
-    below-first : y ≤ℤ x
-    below-first = least x (f x (List·Memᴰ·head refl))
-
-    same : x ≡ y
-    same =
-        ⊎-elim
-        (λ (e : y ≡ x). sym e)
-        (λ (o : List·Memᴰ y l). absurd (rising-head x l r y o ∴ below-first ∴ simp ints (omega arith)))
-        (List·Memᴰ·cases-cons (g y x (List·Memᴰ·head refl) (List·Memᴰ·head refl) below-first))
-
-    inner : (k : ℤ) → List·Memᴰ k l → List·Memᴰ k m
-    inner k o =
-        ⊎-elim
-        (λ (e : k ≡ y). absurd (rising-head x l r k o ∴ e ∴ same ∴ simp ints (omega arith)))
-        (λ (o : List·Memᴰ k m). o)
-        (List·Memᴰ·cases-cons (f k (List·Memᴰ·tail o)))
-
-    outer : (k j : ℤ) → List·Memᴰ k m → List·Memᴰ j l → k ≤ℤ j → List·Memᴰ k l
-    outer k j o p q =
-        ⊎-elim
-        (λ (e : k ≡ x). absurd (rising-head y m s k o ∴ e ∴ same ∴ simp ints (omega arith)))
-        (λ (o : List·Memᴰ k l). o)
-        (List·Memᴰ·cases-cons (g k j (List·Memᴰ·tail o) (List·Memᴰ·tail p) q))
-
 -- ---- as tests
-
-pub mem-any : (j : ℤ) (l : List ℤ) → (any (equal j) l ≡ true) ↔ List·Memᴰ j l
-mem-any j l = (
-  λ e. let h = any-iff (equal j) l .0 e in rw (equal-iff j (h .0) .0 (h .2)) (h .1),
-  λ m. any-iff (equal j) l .1 (j, m, equal-iff j j .1 refl),
-)
 
 -- the first and the last of a rising list that has a member
 ends-of : (j : ℤ) (m : List ℤ) → Rising m → List·Memᴰ j m
@@ -204,12 +160,12 @@ module _ (lo hi p : ℤ) (l : List ℤ) (r : Rising l) where
       let both = and-iff (any (equal j) l) (asked (firstOr (pos 1) taken) (lastOr (pos 0) taken) j) in
       test-ext
       (λ e.
-      let n = mem-any j taken .0 e in
+      let n = member-iff j taken .0 e in
       let f = ends-of j taken rises n in
-      both .1 (mem-any j l .1 (taken-member lo hi p j l n), between .1 (f .0 .1, f .1 .1)))
+      both .1 (member-iff j l .1 (taken-member lo hi p j l n), between .1 (f .0 .1, f .1 .1)))
       (λ e.
-      let n = mem-any j l .0 (both .0 e .0) in
+      let n = member-iff j l .0 (both .0 e .0) in
       let b = between .0 (both .0 e .1) in
       let k = has-member taken (b .0 ∴ b .1 ∴ simp ints (omega arith)) in
       let f = ends-of (k .0) taken rises (k .1) in
-      mem-any j taken .1 (taken-between lo hi p _ j _ l r n (f .0 .0) (f .1 .0) (b .0) (b .1)))
+      member-iff j taken .1 (taken-between lo hi p _ j _ l r n (f .0 .0) (f .1 .0) (b .0) (b .1)))

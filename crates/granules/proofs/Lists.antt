@@ -149,6 +149,42 @@ rising-unique (j ∷ l) (k ∷ m) r s h =
 pub lists-unique : {S : ℤ → Type 0} (l m : List ℤ) → Lists S l → Lists S m → l ≡ m
 lists-unique l m x y = rising-unique l m (x .rising) (y .rising) (λ i. Iff·trans (Iff·symm (x .member i)) (y .member i))
 
+-- a rising list whose members are those of another one up to some of them is a front of it
+pub front-of : (l m : List ℤ) → Rising l → Rising m → ((k : ℤ) → List·Memᴰ k l → List·Memᴰ k m)
+    → ((k j : ℤ) → List·Memᴰ k m → List·Memᴰ j l → k ≤ℤ j → List·Memᴰ k l) → (n : List ℤ) × (m ≡ l ++ n)
+front-of [] m r s f g = (m, refl)
+front-of (x ∷ l) [] r s f g = absurd (List·Memᴰ·not-nil (f x (List·Memᴰ·head refl)))
+front-of (x ∷ l) (y ∷ m) r s f g =
+    let n = front-of l m (rising-tail x l r) (rising-tail y m s) inner outer in
+    (n .0, ap₂ (λ (z : ℤ) (o : List ℤ). z ∷ o) (sym same) (n .1))
+  where
+    least : (z : ℤ) → List·Memᴰ z (y ∷ m) → y ≤ℤ z
+    least z o = ⊎-elim (λ (e : z ≡ y). e ∴ simp ints (omega arith)) (λ (o : List·Memᴰ z m). rising-head y m s z o ∴ simp ints (omega arith)) (List·Memᴰ·cases-cons o)
+
+    below-first : y ≤ℤ x
+    below-first = least x (f x (List·Memᴰ·head refl))
+
+    same : x ≡ y
+    same =
+        ⊎-elim
+        (λ (e : y ≡ x). sym e)
+        (λ (o : List·Memᴰ y l). absurd (rising-head x l r y o ∴ below-first ∴ simp ints (omega arith)))
+        (List·Memᴰ·cases-cons (g y x (List·Memᴰ·head refl) (List·Memᴰ·head refl) below-first))
+
+    inner : (k : ℤ) → List·Memᴰ k l → List·Memᴰ k m
+    inner k o =
+        ⊎-elim
+        (λ (e : k ≡ y). absurd (rising-head x l r k o ∴ e ∴ same ∴ simp ints (omega arith)))
+        (λ (o : List·Memᴰ k m). o)
+        (List·Memᴰ·cases-cons (f k (List·Memᴰ·tail o)))
+
+    outer : (k j : ℤ) → List·Memᴰ k m → List·Memᴰ j l → k ≤ℤ j → List·Memᴰ k l
+    outer k j o p q =
+        ⊎-elim
+        (λ (e : k ≡ x). absurd (rising-head y m s k o ∴ e ∴ same ∴ simp ints (omega arith)))
+        (λ (o : List·Memᴰ k l). o)
+        (List·Memᴰ·cases-cons (g k j (List·Memᴰ·tail o) (List·Memᴰ·tail p) q))
+
 -- the first and the last of a rising list are its least and its greatest member
 pub first-least : (j : ℤ) (l : List ℤ) → Rising l → List·Memᴰ j l → List·Memᴰ (first l) l × (first l ≤ℤ j)
 first-least j [] r m = absurd (List·Memᴰ·not-nil m)

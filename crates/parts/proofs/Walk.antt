@@ -4,7 +4,7 @@ use mathlib.Core.Path.{_≡_, refl, sym, _∙_, ap}
 use mathlib.Core.Logic.{_⊎_, inl, inr, ⊎-elim}
 use mathlib.Core.Option.{none, some}
 use mathlib.Core.Bool.{true}
-use mathlib.Core.List.{List, [], _∷_, _++_, List·Memᴰ, List·Memᴰ·head, List·Memᴰ·not-nil, List·Memᴰ·append-cases, List·Memᴰ·eq-of-singleton, List·Memᴰ·tail, Memᴰ·append-left, Memᴰ·append-right}
+use mathlib.Core.List.{List, [], _∷_, _++_, List·Memᴰ, List·Memᴰ·head, List·Memᴰ·not-nil, List·Memᴰ·append-cases, List·Memᴰ·eq-of-singleton, Memᴰ·append-left, Memᴰ·append-right}
 use Prim.Native.Nat.{ℕ, _+_, _<_, _≤_}
 use native.Mathlib.Omega.{arith}
 use lib.IntN.{ℤ, pos, _+ℤ_, _-ℤ_, _*ℤ_}
@@ -14,10 +14,10 @@ use Rattle.integers.proofs.Linear.{ints, _∴_}
 use Rattle.integers.proofs.Order.{≤ℤ-antisym, le-or-lt, up-less, Cases, cases}
 use Rattle.integers.proofs.Order.Cases.{below, equal, above}
 use Rattle.calendar.specs.Meaning.{Row, meant}
-use Rattle.calendar.specs.Algebra.{Rising, Lists}
+use Rattle.calendar.specs.Algebra.{Lists}
 use Rattle.granules.specs.Valid.{Valid}
 use Rattle.granules.proofs.Tests.{some-inj, none≢some, decided, is-iff}
-use Rattle.granules.proofs.Lists.{rising-cons, rising-head, rising-tail}
+use Rattle.granules.proofs.Lists.{rising-more}
 use Rattle.granules.proofs.Calendars.{label-moved}
 use Rattle.granules.proofs.Rows.{meant-repeats}
 use Rattle.cursors.specs.declared.Cursor.{Cursor}
@@ -74,14 +74,6 @@ pub walk-few : {h g : Row} {z t : ℤ} {n : ℕ} {p : List ℤ} {u : ℤ} {a d :
 walk-few {h} {count} c =
     let q : pos count ≤ℤ pos (h .period) = c .few ∴ c .high ∴ simp ints (omega arith) in
     omega (arith, simp ints at q)
-
--- one more behind a rising list
-rising-more : (l : List ℤ) (k : ℤ) → Rising l → ((j : ℤ) → List·Memᴰ j l → j <ℤ k) → Rising (l ++ (k ∷ []))
-rising-more [] k r h = tt
-rising-more (x ∷ l) k r h =
-    rising-cons x (l ++ (k ∷ []))
-    (λ j m. ⊎-elim (λ (n : List·Memᴰ j l). rising-head x l r j n) (λ (n : List·Memᴰ j (k ∷ [])). h x (List·Memᴰ·head refl) ∴ List·Memᴰ·eq-of-singleton n ∴ simp ints (omega arith)) (List·Memᴰ·append-cases l m))
-    (rising-more l k (rising-tail x l r) (λ j m. h j (List·Memᴰ·tail m)))
 
 empty-of : (l : List ℤ) (j : ℤ) → 0 ≡ length l → List·Memᴰ j l → ⊥
 empty-of [] j e m = List·Memᴰ·not-nil m

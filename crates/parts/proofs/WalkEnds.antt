@@ -4,21 +4,22 @@ use mathlib.Core.Path.{_≡_, sym, _∙_, ap, subst}
 use mathlib.Core.Logic.{inl, inr, ⊎-elim}
 use mathlib.Core.Option.{some}
 use mathlib.Core.Bool.{true, false}
-use mathlib.Core.List.{List, List·Memᴰ}
+use mathlib.Core.List.{List, _++_, List·Memᴰ}
 use Prim.Native.Nat.{ℕ}
 use native.Mathlib.Omega.{arith}
 use lib.IntN.{ℤ, pos, _+ℤ_}
 use lib.Signed.{_≤ℤ_, _<ℤ_}
 use lib.ListN.{length}
 use Rattle.integers.proofs.Linear.{ints, _∴_}
-use Rattle.integers.proofs.Order.{≤ℤ-antisym, le-or-lt}
-use Rattle.calendar.specs.Meaning.{Row, meant, Inside}
-use Rattle.calendar.specs.Granules.{within}
+use Rattle.integers.proofs.Order.{≤ℤ-trans, ≤ℤ-antisym, <ℤ→≤ℤ, le-or-lt}
+use Rattle.calendar.specs.Meaning.{Row, meant, Inside, Meets}
+use Rattle.calendar.specs.Algebra.{Lists}
+use Rattle.calendar.specs.Granules.{within, meeting}
 use Rattle.calendar.specs.Questions.{madeUp}
 use Rattle.granules.specs.Valid.{Valid}
 use Rattle.granules.proofs.Tests.{some-inj, none≢some, false-iff}
-use Rattle.granules.proofs.Lists.{lists-unique}
-use Rattle.granules.proofs.Inside.{within-lists}
+use Rattle.granules.proofs.Lists.{lists-unique, front-of}
+use Rattle.granules.proofs.Inside.{within-lists, meeting-lists}
 use Rattle.granules.proofs.Questions.{madeUp-iff}
 use Rattle.cursors.specs.declared.Cursor.{Cursor}
 use Rattle.cursors.specs.Cursor.{cursorAt}
@@ -41,14 +42,36 @@ module _ {h g : Row} (v : Valid h) (w : Valid g) {z t : ℤ} (b : FirstInstant h
     part-seen : (meant h u′ ≡ some z → ⊥) → (x : ℤ) × (meant h x ≡ some z) × (x ≤ℤ u) × (meant g x ≡ some latest)
     part-seen f = c .lists .member latest .1 (has-part v w b c next beside step f .0)
 
+    -- what was seen stands before the other granules that meet it
+    seen-front : (n : List ℤ) × (meeting g h z ≡ c .seen ++ n)
+    seen-front = front-of (c .seen) (meeting g h z) (c .lists .rising) (all .rising) inner outer
+      where
+        all : Lists (λ k. Meets (meant g) k (meant h) z) (meeting g h z)
+        all = meeting-lists g h w v z
+
+        inner : (k : ℤ) → List·Memᴰ k (c .seen) → List·Memᴰ k (meeting g h z)
+        inner k m = let s = c .lists .member k .1 m in all .member k .0 (s .0, s .3, s .1)
+
+        outer : (k j : ℤ) → List·Memᴰ k (meeting g h z) → List·Memᴰ j (c .seen) → k ≤ℤ j → List·Memᴰ k (c .seen)
+        outer k j m n o =
+            let s = all .member k .1 m in
+            let q = c .lists .member j .1 n in
+            ⊎-elim
+            (λ (i : s .0 ≤ℤ u). c .lists .member k .0 (s .0, s .2, i, s .1))
+            (λ (i : u <ℤ s .0). rw (≤ℤ-antisym o (w .ordered (q .0) (s .0) j k (≤ℤ-trans (q .2) (<ℤ→≤ℤ i)) (q .3) (s .1))) n)
+            (le-or-lt (s .0) u)
+
+    incomplete : madeUp h g z ≡ false → PartsOf h g z p Incomplete
+    incomplete e = let n = seen-front in (e, (c .seen, n .0, n .1, c .shows))
+
     -- u′ is in the granule and has no label in g, or that of an instant outside; or it is in a gap and in the latest part
-    pub walk-broken : PartAt z (meant h u′) (meant g u′) o latest Broken → madeUp h g z ≡ false
-    walk-broken (inl (e, inl f)) = false-iff (madeUp-iff h g v w z) .1 (λ m. none≢some (sym f ∙ m u′ e .1))
-    walk-broken (inl (e, inr f)) = apart u′ (c .outer .at) o e f (c .outer .out) (c .outer .label)
+    pub walk-broken : PartAt z (meant h u′) (meant g u′) o latest Broken → PartsOf h g z p Incomplete
+    walk-broken (inl (e, inl f)) = incomplete (false-iff (madeUp-iff h g v w z) .1 (λ m. none≢some (sym f ∙ m u′ e .1)))
+    walk-broken (inl (e, inr f)) = incomplete (apart u′ (c .outer .at) o e f (c .outer .out) (c .outer .label))
     walk-broken (inr (e, f)) =
         let out : meant h u′ ≡ some z → ⊥ = λ y. none≢some (sym e ∙ y) in
         let s = part-seen out in
-        apart (s .0) u′ latest (s .1) (s .3) out f
+        incomplete (apart (s .0) u′ latest (s .1) (s .3) out f)
 
     -- another label of h shows: all instants of the granule are seen
     module _ (j : ℤ) (e : meant h u′ ≡ some j) (other : j ≡ z → ⊥) where
@@ -96,4 +119,4 @@ module _ {h g : Row} (v : Valid h) (w : Valid g) {z t : ℤ} (b : FirstInstant h
 
       pub walk-ended : (x : Walked) → EndAt g u′ count latest x → PartsOf h g z p x
       walk-ended (Parts m) (q, (i, l, past)) = (made i l past, (q ∙ c .count-is ∙ ap length (parts i l past), subst (λ (k : List ℤ). Shows p k) (parts i l past) (c .shows)))
-      walk-ended Incomplete l = goes-on l
+      walk-ended Incomplete l = incomplete (goes-on l)

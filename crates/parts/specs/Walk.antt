@@ -3,13 +3,13 @@ use mathlib.Core.Path.{_≡_}
 use mathlib.Core.Logic.{_⊎_}
 use mathlib.Core.Option.{Option, none, some}
 use mathlib.Core.Bool.{Bool, true, false}
-use mathlib.Core.List.{List}
+use mathlib.Core.List.{List, _++_}
 use Prim.Native.Nat.{ℕ, _<_, _^_}
 use lib.IntN.{ℤ, pos}
 use lib.Signed.{_≤ℤ_}
 use lib.ListN.{length, getD}
 use Rattle.calendar.specs.Meaning.{Row, meant}
-use Rattle.calendar.specs.Granules.{within}
+use Rattle.calendar.specs.Granules.{within, meeting}
 use Rattle.calendar.specs.Questions.{madeUp}
 use Rattle.cursors.specs.declared.Cursor.{Cursor}
 use Rattle.cursors.specs.Found.{Within}
@@ -44,8 +44,10 @@ abbrev pub EndAt : Row → ℤ → ℕ → ℤ → Walked.Walked → Type 0
 EndAt g u count k (Walked.the-variants.Parts n) = (n ≡ count) × ((j : ℤ) × Nearest false g u j × (j ≡ k → ⊥))
 EndAt g u count k Walked.the-variants.Incomplete = Nearest false g u k
 
--- the parts of the granule z: how many there are, and those that the list l has room for, with zeros behind them
+-- the parts of the granule z: how many there are, and those that the list l has room for, with zeros behind them; where they do not make it up, l shows
+-- in the same way the first of the granules of g that meet it
 abbrev pub PartsOf : Row → Row → ℤ → List ℤ → Walked.Walked → Type 0
 PartsOf h g z l (Walked.the-variants.Parts count) =
     (madeUp h g z ≡ true) × ((count ≡ length (within g h z)) × ((i : ℕ) → i < length l → getD l i (pos 0) ≡ getD (within g h z) i (pos 0)))
-PartsOf h g z l Walked.the-variants.Incomplete = madeUp h g z ≡ false
+PartsOf h g z l Walked.the-variants.Incomplete =
+    (madeUp h g z ≡ false) × ((m n : List ℤ) × (meeting g h z ≡ m ++ n) × ((i : ℕ) → i < length l → getD l i (pos 0) ≡ getD m i (pos 0)))

@@ -1,10 +1,10 @@
 -- Which granules of b count for a granule of a: the one at any of its instants under select-down, those that meet it under select-intersecting.
 -- Assumes nothing.
 use mathlib.Core.Path.{_≡_, refl, sym, _∙_, ap, subst}
-use mathlib.Core.Logic.{_↔_, _⊎_, inl, inr, ⊎-elim}
+use mathlib.Core.Logic.{_⊎_, inl, inr, ⊎-elim}
 use mathlib.Core.Option.{none, some}
 use mathlib.Core.Bool.{Bool, true, false}
-use mathlib.Core.List.{List, List·Memᴰ, Memᴰ·cast}
+use mathlib.Core.List.{List·Memᴰ}
 use native.Mathlib.Omega.{arith}
 use lib.IntN.{ℤ}
 use lib.Signed.{_≤ℤ_, _<ℤ_}
@@ -18,8 +18,8 @@ use Rattle.calendar.specs.Lists.{any, equal}
 use Rattle.calendar.specs.Granules.{inside, meeting, within}
 use Rattle.calendar.specs.Compute.{selects}
 use Rattle.granules.specs.Valid.{Valid}
-use Rattle.granules.proofs.Tests.{true≢false, none≢some, some-inj, test-ext, and-iff, equal-iff}
-use Rattle.granules.proofs.Lists.{any-iff}
+use Rattle.granules.proofs.Tests.{true≢false, none≢some, some-inj, test-ext, and-iff}
+use Rattle.granules.proofs.Lists.{any-iff, member-iff}
 use Rattle.granules.proofs.Inside.{inside-iff, meeting-lists, within-lists}
 use Rattle.algebra.proofs.Pick.{pick-member}
 use Rattle.candidates.specs.Tallies.{candidates}
@@ -30,12 +30,6 @@ use Rattle.kinds.specs.declared.Selection.{Selection}
 use Rattle.kinds.specs.Operations.{selectionOf}
 use Rattle.select_granules.specs.Memos.{flagOf, taken, Picks, Recalls, Remembers}
 use Rattle.select_granules.specs.Deciding.{takes, selectionBy, Decides}
-
-member-iff : (j : ℤ) (l : List ℤ) → (any (equal j) l ≡ true) ↔ List·Memᴰ j l
-member-iff j l = (
-  λ e. let h = any-iff (equal j) l .0 e in Memᴰ·cast (equal-iff j (h .0) .0 (h .2)) (h .1),
-  λ m. any-iff (equal j) l .1 (j, m, equal-iff j j .1 refl),
-)
 
 -- ---- a decision
 

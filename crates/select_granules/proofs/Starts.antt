@@ -13,8 +13,9 @@ use Rattle.integers.proofs.Linear.{ints, _∴_}
 use Rattle.integers.proofs.Order.{pos-up}
 use Rattle.calendar.specs.Algebra.{Rising, positions, pickStart, pick}
 use Rattle.calendar.specs.Lists.{any, equal}
+use Rattle.granules.proofs.Lists.{member-iff}
 use Rattle.candidates.specs.Tallies.{firstOr, lastOr}
-use Rattle.candidates.proofs.Positions.{mem-any, ends-taken, at-positions}
+use Rattle.candidates.proofs.Positions.{ends-taken, at-positions}
 use Rattle.kinds.specs.declared.Pick.{Pick}
 use Rattle.select_granules.specs.declared.Picked.{Picked}
 use Rattle.select_granules.specs.Memos as Memos
@@ -45,4 +46,4 @@ module _ (p : Pick) (l : List ℤ) (r : Rising l) (lo hi : ℤ) (starts : lo ≡
       in-list : m .low ≤ℤ m .high → (any (equal (m .low)) l ≡ true) × (any (equal (m .high)) l ≡ true)
       in-list h =
           let n = ends-taken lo hi (pos 1) l r (rw (b, c) at h) in
-          rw (b, c) (mem-any _ l .1 (n .0), mem-any _ l .1 (n .1))
+          rw (b, c) (member-iff _ l .1 (n .0), member-iff _ l .1 (n .1))

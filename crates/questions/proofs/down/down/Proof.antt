@@ -137,7 +137,7 @@ returns-7 c =
     let w = o .before .before .before in
     let s = at-start w in
     let x = subst (PartsOf (h-row s) (g-row s) (s .args .z) (w .parts-of .last .1 .1 .0)) (o .enum-told2 .given .1) (walks w) in
-    refused-parts (room s) 16 _ _ (down-incomplete (h-row s) (g-row s) (s .args .z) (room s) (checked (at-checks w)) x)
+    refused-parts (room s) 16 _ _ (down-incomplete (h-row s) (g-row s) (s .args .z) (room s) (checked (at-checks w)) (x .0))
     (k .clear3 .ensures ∙ ap (λ (m : ℕ). replicate m (pos 0)) (as-long w))
 
 -- ---- the answer
