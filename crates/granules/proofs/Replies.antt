@@ -28,6 +28,12 @@ answer-iff a b = (λ e. cc, λ e. ap answer e)
 
 -- ---- one check
 
+pub passed : {A : Type 0} (n : ℕ) {b : Bool} (r : Reply A) → b ≡ true → require n b r ≡ r
+passed n r e = ap (λ (b : Bool). require n b r) e
+
+pub failed : {A : Type 0} (n : ℕ) {b : Bool} (r : Reply A) → b ≡ false → require n b r ≡ refused n
+failed n r e = ap (λ (b : Bool). require n b r) e
+
 -- an answer behind a check: it has passed
 pub require-answer : {A : Type 0} {a : A} (n : ℕ) (b : Bool) (r : Reply A) → require n b r ≡ answer a → (b ≡ true) × (r ≡ answer a)
 require-answer n true r e = (refl, e)

@@ -17,16 +17,10 @@ use Rattle.calendar.specs.Distance.{size}
 use Rattle.calendar.specs.Checks.{fullOperands, aligned, alignedAs, emptied}
 use Rattle.calendar.specs.Reply.{Reply, require}
 use Rattle.calendar.specs.Reply.Reply.{refused, answer}
+pub use Rattle.granules.proofs.Replies.{passed, failed}
 use Rattle.operand_checks.specs.declared.Extent.{Extent}
 use Rattle.operand_checks.specs.Admission.{admission}
 use Rattle.operand_checks.specs.Shared.{wholeTurn, fitted, grouped, spanned, alterExtent, behindSpan}
-
--- a check that passed, and one that failed
-pub passed : (n : ℕ) {t : Bool} (r : Reply Extent) → t ≡ true → require n t r ≡ r
-passed n r e = ap (λ (t : Bool). require n t r) e
-
-pub failed : (n : ℕ) {t : Bool} (r : Reply Extent) → t ≡ false → require n t r ≡ refused n
-failed n r e = ap (λ (t : Bool). require n t r) e
 
 -- a working row, by its numbers
 pub same-extent : {s p d s′ p′ d′ : ℤ} → s ≡ s′ → p ≡ p′ → d ≡ d′

@@ -1,9 +1,9 @@
 -- The laws that the questions rest on.
---     Replies      replies whose checks passed, or failed
 --     Lengths      the length of a granule, and numbers that are cast
 --     Cleared      a list that is made zero
 --     Checks       the reply of `down`, check by check
-pub mod Replies
+--     Lateness     lateness: when each reply is given
 pub mod Lengths
 pub mod Cleared
 pub mod Checks
+pub mod Lateness

@@ -22,9 +22,9 @@ use Rattle.floats.specs.Allowance as F
 use Rattle.granules.specs.Valid.{Valid}
 use Rattle.granules.proofs.Instants.{instantOf-labelled}
 use Rattle.granules.proofs.Questions.{length-at-most}
+use Rattle.granules.proofs.Replies.{passed, failed}
 use Rattle.cursors.specs.Found.{found, Within}
 use Rattle.cursors.proofs.Numbers.{valid, numbers}
-use Rattle.questions.proofs.Replies.{passed, failed}
 use Rattle.questions.proofs.Lengths.{lateness, cast}
 use Rattle.questions.proofs.judged.Statement.{statement}
 use Rattle.questions.proofs.judged.Tie as tie

@@ -11,9 +11,9 @@ use Rattle.calendar.specs.Limits.{inRange, between, lateLimit}
 use Rattle.calendar.specs.Questions.{given}
 use Rattle.floats.specs.Allowance as F
 use Rattle.granules.proofs.Tests.{not-iff}
+use Rattle.granules.proofs.Replies.{passed, failed}
 use Rattle.cursors.proofs.Bounds.{in-range}
 use Rattle.questions.specs.Answers.{mayBeLate}
-use Rattle.questions.proofs.Replies.{passed, failed}
 use Rattle.questions.proofs.may_be_late.Statement.{statement}
 use Rattle.questions.proofs.may_be_late.Tie as tie
 

@@ -22,10 +22,10 @@ use Rattle.calendar.specs.Limits.{inRange}
 use Rattle.calendar.specs.Questions.{given, holder, upFromGranule}
 use Rattle.granules.proofs.Tests.{not-iff}
 use Rattle.granules.proofs.Instants.{instantOf-labelled}
+use Rattle.granules.proofs.Replies.{passed, failed}
 use Rattle.cursors.specs.Found.{found, Within}
 use Rattle.cursors.proofs.Bounds.{in-range}
 use Rattle.cursors.proofs.Numbers.{valid}
-use Rattle.questions.proofs.Replies.{passed, failed}
 use Rattle.questions.proofs.up_granule.Statement.{statement}
 use Rattle.questions.proofs.up_granule.Tie as tie
 

@@ -15,9 +15,9 @@ use Rattle.calendar.specs.Sound.{sound}
 use Rattle.calendar.specs.Limits.{inRange}
 use Rattle.calendar.specs.Questions.{given, upFromInstant}
 use Rattle.granules.proofs.Tests.{not-iff}
+use Rattle.granules.proofs.Replies.{passed, failed}
 use Rattle.cursors.specs.Found.{found, Near}
 use Rattle.cursors.proofs.Bounds.{in-range}
-use Rattle.questions.proofs.Replies.{passed, failed}
 use Rattle.questions.proofs.up_instant.Statement.{statement}
 use Rattle.questions.proofs.up_instant.Tie as tie
 
