@@ -28,12 +28,12 @@ use Rattle.algebra.proofs.Steps.{judged-is, afterEntry, entries-zero, e
 
 -- ---- lists of rows
 
-getD-mem : {A : Type 0} (l : List A) (d : A) (k : ℕ) → k < length l → List·Memᴰ (getD l k d) l
+pub getD-mem : {A : Type 0} (l : List A) (d : A) (k : ℕ) → k < length l → List·Memᴰ (getD l k d) l
 getD-mem [] d k h = absurd (omega arith)
 getD-mem (a ∷ l) d zero h = List·Memᴰ·head refl
 getD-mem (a ∷ l) d (suc k) h = List·Memᴰ·tail (getD-mem l d k (omega arith))
 
-joined-length : (l : List Row) (r : Row) → length (joined (l ++ (r ∷ []))) ≡ length (joined l) + length (r .cells)
+pub joined-length : (l : List Row) (r : Row) → length (joined (l ++ (r ∷ []))) ≡ length (joined l) + length (r .cells)
 joined-length [] r = simp length-append (omega arith)
 joined-length (s ∷ l) r = let ih = joined-length l r in simp length-append (omega arith)
 
@@ -44,7 +44,7 @@ pub record Stored (pool : ℕ) (l : List Row) (room : ℕ) : Type 0 where
   pub all-sound : (r : Row) → List·Memᴰ r l → sound r ≡ true
   pub fit : length (joined l) + room ≤ pool
 
-entry-sound : (l : List Row) (room : ℕ) (e : Entry) (r : Row) → ((s : Row) → List·Memᴰ s l → sound s ≡ true) → room ≤ poolLimit
+pub entry-sound : (l : List Row) (room : ℕ) (e : Entry) (r : Row) → ((s : Row) → List·Memᴰ s l → sound s ≡ true) → room ≤ poolLimit
     → judged l room e ≡ answer r → (sound r ≡ true) × (r .period ≤ room)
 entry-sound l room e r h limit j = by (named (length l) e) refl (sym (judged-is l room e) ∙ j)
   where

@@ -7,12 +7,14 @@ use mathlib.Core.List.{List, [], _∷_, _++_, append-assoc, append-nil, List·Me
 use Prim.Native.Nat.{ℕ, _+_, _-_, _*_, _≤_}
 use native.Mathlib.Omega.{arith}
 use lib.IntN.{ℤ}
-use lib.ListN.{length, getD, take, drop, replicate, length-append, length-replicate}
+use lib.ListN.{length, take, drop, replicate, length-append, length-replicate}
 use lib.Seq.{take-at, drop-at, drop-drop}
-use Rattle.calendar.specs.Meaning.{Row, bottomRow}
+use Rattle.calendar.specs.Meaning.{Row}
 use Rattle.calendar.specs.Operation.{Operation}
 use Rattle.calendar.specs.Sound.{sound}
 use Rattle.calendar.specs.Limits.{poolLimit, headingLength}
+use Rattle.calendar.specs.declared.Refusal.{Refusal}
+use Rattle.calendar.specs.Refusals.{numberOf}
 use Rattle.calendar.specs.Reply.{Reply, andThen}
 use Rattle.calendar.specs.Reply.Reply.{refused, answer}
 use Rattle.calendar.specs.Table.{Entry, entryAt, named}
@@ -20,32 +22,14 @@ use Rattle.calendar.specs.Outcome.{converted, judged, atRows}
 use Rattle.calendar.specs.Stored.{joined, headingsFrom}
 use Rattle.calendar.specs.Lists.{filled}
 use Rattle.granules.proofs.Sound.{sound-valid}
-use Rattle.algebra.proofs.Operations.{operands-weaken, operands-map, factor-map}
-use Rattle.algebra.proofs.Answered.{converted-sound}
-use Rattle.algebra.proofs.Named.{named-operation}
+use Rattle.algebra.proofs.Stored.{entry-sound}
 use Rattle.algebra.proofs.Steps.{judged-is}
-use Rattle.row_entry.specs.declared.Entry as Code
-use Rattle.row_entry.specs.declared.Entry.the-variants.{Refused, Ends}
+use Rattle.row_entry.specs.declared.Appended.{Appended}
+use Rattle.row_entry.specs.declared.Appended.the-variants.{Refused, Ends}
 use Rattle.row_entry.specs.Stores.{Stores, Entered}
-use Rattle.row_entry.specs.Entering.{Added, Became}
+use Rattle.row_entry.specs.Entering.{Added, Kept, Became}
 use Rattle.row_entry.proofs.Cells.{drop-alike}
-use Rattle.row_entry.proofs.AtRows.{getD-mem}
 use Rattle.conversion.proofs.Headings.{headings-length}
-
--- ---- the row of an entry that is answered
-
-entry-sound : (l : List Row) (room : ℕ) (e : Entry) (r : Row) → ((s : Row) → List·Memᴰ s l → sound s ≡ true) → room ≤ poolLimit
-    → judged l room e ≡ answer r → (sound r ≡ true) × (r .period ≤ room)
-entry-sound l room e r h limit j = by (named (length l) e) refl (sym (judged-is l room e) ∙ j)
-  where
-    by : (x : Reply (Operation ℕ)) → named (length l) e ≡ x → andThen x (λ o. converted (atRows l o) room) ≡ answer r → (sound r ≡ true) × (r .period ≤ room)
-    by (refused n) p q = let z : _≡_ {A = ℕ} 0 1 = cc in absurd (omega arith)
-    by (answer o) p q =
-        let n = named-operation (length l) e o p in
-        let at : ℕ → Row = λ k. getD l k bottomRow in
-        converted-sound (atRows l o) room r
-        (operands-map at (λ s. sound s ≡ true) o (operands-weaken (λ k b. h (at k) (getD-mem l bottomRow k b)) o (n .1)))
-        (factor-map at o (n .0)) limit q
 
 -- ---- one behind the others
 
@@ -128,22 +112,46 @@ module _ (l : List Row) (k used e : ℕ) (numbers headings : List ℕ) (before p
     all-sound = λ c m. ⊎-elim (s .all-sound c) (λ i. subst (λ (c : Row). sound c ≡ true) (sym (List·Memᴰ·eq-of-singleton i)) is-sound) (List·Memᴰ·append-cases l m);
   }
 
--- what became of the entry
-pub entered : (t : List ℤ) (k used : ℕ) (l : List Row) (numbers headings : List ℕ) (before pool : List ℤ) (x : Entry) (c : Code.Entry) → length l ≡ k → Stores l numbers before used
-    → headingLength * k + headingLength ≤ length numbers → length before ≤ poolLimit → x ≡ entryAt t k → length pool ≡ length before
-    → Became k used numbers before (judged l (length before - used) x) c headings pool → Entered t k l c headings pool
-entered t k used l numbers headings before pool x c many s heading limit is same = by c
+-- ---- what became of the entry
+
+-- the rows l still stand, with the cells behind them open
+kept-stores : (l : List Row) (used : ℕ) (numbers headings : List ℕ) (before pool : List ℤ) → Stores l numbers before used → length pool ≡ length before
+    → Kept used numbers before headings pool → Stores l headings pool (length (joined l))
+kept-stores l used numbers headings before pool s same kept =
+    subst (Stores l headings pool) (s .ends)
+    (record {
+      numbers = subst (λ (n : List ℕ). n ≡ filled (length n) 0 (headingsFrom 0 l)) (sym (kept .numbers)) (s .numbers);
+      cells = kept .cells ∙ s .cells;
+      ends = s .ends;
+      fits = omega (arith, s .fits);
+      all-sound = s .all-sound;
+    })
+
+-- it names the operation o
+pub entered : (t : List ℤ) (k used : ℕ) (l : List Row) (numbers headings : List ℕ) (before pool : List ℤ) (x : Entry) (o : Operation ℕ) (c : Appended) → length l ≡ k
+    → Stores l numbers before used → headingLength * k + headingLength ≤ length numbers → length before ≤ poolLimit → x ≡ entryAt t k → named k x ≡ answer o
+    → length pool ≡ length before → Became k used numbers before (converted (atRows l o) (length before - used)) c headings pool → Entered t k l c headings pool
+entered t k used l numbers headings before pool x o c many s heading limit is names same = by c
   where
+    judged-so : judged l (length before - used) x ≡ converted (atRows l o) (length before - used)
+    judged-so =
+        judged-is l (length before - used) x
+        ∙ ap (λ (a : Reply (Operation ℕ)). andThen a (λ o. converted (atRows l o) (length before - used))) (ap (λ (n : ℕ). named n x) many ∙ names)
+
     judged-same : judged l (length pool - length (joined l)) (entryAt t k) ≡ judged l (length before - used) x
     judged-same = ap₂ (judged l) (ap₂ _-_ same (sym (s .ends))) (sym is)
 
-    by : (c : Code.Entry) → Became k used numbers before (judged l (length before - used) x) c headings pool → Entered t k l c headings pool
-    by (Refused n) b = judged-same ∙ b
+    by : (c : Appended) → Became k used numbers before (converted (atRows l o) (length before - used)) c headings pool → Entered t k l c headings pool
+    by (Refused n) (b, kept) = (judged-same ∙ judged-so ∙ b, kept-stores l used numbers headings before pool s same kept)
     by (Ends e) (r, b, a) =
-        let h = entry-sound l (length before - used) x r (s .all-sound) (omega arith) b in
-        (r, judged-same ∙ b, stored l k used e numbers headings before pool r many s a heading (h .0) (h .1) same)
+        let h = entry-sound l (length before - used) x r (s .all-sound) (omega arith) (judged-so ∙ b) in
+        (r, judged-same ∙ judged-so ∙ b, stored l k used e numbers headings before pool r many s a heading (h .0) (h .1) same)
 
--- an entry that does not pass checks 4, 5 and 6
-pub refused-named : (l : List Row) (k room n : ℕ) (x y : Entry) → length l ≡ k → y ≡ x → named k y ≡ refused n → judged l room x ≡ refused n
-refused-named l k room n x y many is h =
-    judged-is l room x ∙ ap (λ (a : Reply (Operation ℕ)). andThen a (λ o. converted (atRows l o) room)) (ap₂ named many (sym is) ∙ h)
+-- it does not pass checks 4, 5 and 6, and both lists are as they were
+pub refused-named : (t : List ℤ) (k used : ℕ) (l : List Row) (headings : List ℕ) (pool : List ℤ) (x : Entry) (n : Refusal) → length l ≡ k
+    → Stores l headings pool used → x ≡ entryAt t k → named k x ≡ refused (numberOf n) → Entered t k l (Refused n) headings pool
+refused-named t k used l headings pool x n many s is h = (
+  judged-is l (length pool - length (joined l)) (entryAt t k)
+      ∙ ap (λ (a : Reply (Operation ℕ)). andThen a (λ o. converted (atRows l o) (length pool - length (joined l)))) (ap₂ named many (sym is) ∙ h),
+  subst (Stores l headings pool) (s .ends) s,
+)

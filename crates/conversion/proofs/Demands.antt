@@ -24,7 +24,8 @@ use Rattle.laws.specs.Matches.{Matches, calendarAt}
 use Rattle.laws.specs.Answered.{Answered}
 use Rattle.laws.proofs.Demand3 as laws
 use Rattle.conversion.specs.Answers.{answered}
-use Rattle.conversion.specs.Left.{Left, Shows, ConvertedTable, rowOf}
+use Rattle.conversion.specs.Shows.{Shows}
+use Rattle.conversion.specs.Left.{Left, ConvertedTable, rowOf}
 use Rattle.conversion.specs.declared.Conversion.{Conversion}
 use Rattle.conversion.specs.declared.Conversion.the-variants.{Converted}
 use Rattle.conversion.proofs.LeftRows.{means-length, shows-refusal, shows-rows}

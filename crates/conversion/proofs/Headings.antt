@@ -12,7 +12,7 @@ use Rattle.calendar.specs.Meaning.{Row, empty, bottomRow}
 use Rattle.calendar.specs.Stored.{joined, headingsFrom}
 use Rattle.calendar.specs.Lists.{filled}
 use Rattle.granules.proofs.Equal.{row-ext}
-use Rattle.conversion.specs.Left.{startAt, endAt, rowAt}
+use Rattle.conversion.specs.Shows.{startAt, endAt, rowAt}
 
 -- ---- lists that are filled up
 

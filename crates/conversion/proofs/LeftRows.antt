@@ -26,7 +26,7 @@ use Rattle.algebra.specs.Represents.{Represents}
 use Rattle.algebra.specs.Agrees.{RepresentsAll}
 use Rattle.algebra.proofs.Operations.{require-answer}
 use Rattle.algebra.proofs.Demand2.{represents-length, represents-at, stored-sound, stored-fit}
-use Rattle.conversion.specs.Left.{ShowsRefusal, ShowsRows}
+use Rattle.conversion.specs.Shows.{ShowsRefusal, ShowsRows}
 use Rattle.conversion.specs.declared.Conversion.the-variants.{Refused, Converted}
 use Rattle.conversion.proofs.Headings.{Whole, filled-length, headings-length, first-left, row-left, next-left, behind-left, beyond-left}
 

@@ -15,19 +15,23 @@ use Rattle.calendar.specs.Limits.{poolLimit, entryLimit, headingLength}
 use Rattle.calendar.specs.Reply.{Reply}
 use Rattle.calendar.specs.Reply.Reply.{refused, answer}
 use Rattle.calendar.specs.Table.{entryAt, admitted}
-use Rattle.calendar.specs.Outcome.{Outcome, judged, entries, outcome}
+use Rattle.calendar.specs.Outcome.{Outcome, judged, entries}
 use Rattle.calendar.specs.Outcome.Outcome.{refusedAt, rows}
 use Rattle.calendar.specs.Stored.{joined, poolAfter, headingsAfter}
 use Rattle.calendar.specs.Lists.{filled}
 use Rattle.granules.proofs.Tests.{and-iff, eqb-iff, leb-iff}
 use Rattle.granules.proofs.Sound.{sound-valid}
 use Rattle.algebra.proofs.Operations.{require-answer}
+use Rattle.algebra.proofs.Stored.{joined-length}
 use Rattle.algebra.proofs.Steps.{afterEntry, entries-zero, entries-suc, afterTable, outcome-is}
-use Rattle.row_entry.specs.declared.Entry.the-variants as Entry
+use Rattle.calendar.specs.declared.Refusal.{Refusal}
+use Rattle.calendar.specs.Refusals.{numberOf}
+use Rattle.row_entry.specs.declared.Appended.the-variants as Appended
 use Rattle.row_entry.specs.Stores.{Stores, EntryDue, Entered}
 use Rattle.conversion.specs.declared.Conversion.{Conversion}
 use Rattle.conversion.specs.declared.Conversion.the-variants as Conversion
-use Rattle.conversion.specs.Tables.{Cleared, TableDue, Ended}
+use Rattle.conversion.specs.Tables.{Cleared, TableDue}
+use Rattle.conversion.specs.Left.{Ended, Left}
 use Rattle.conversion.proofs.Clearing.{filled-length, filled-self}
 
 -- ---- what an outcome leaves
@@ -75,10 +79,6 @@ standing-none t n headings pool d = record {
   cells = refl;
 }
 
-joined-length : (l : List Row) (r : Row) → length (joined (l ++ (r ∷ []))) ≡ length (joined l) + length (r .cells)
-joined-length [] r = simp length-append (omega arith)
-joined-length (s ∷ l) r = let ih = joined-length l r in simp length-append (omega arith)
-
 last-mem : {A : Type 0} (l : List A) (a : A) → List·Memᴰ a (l ++ (a ∷ []))
 last-mem [] a = List·Memᴰ·head refl
 last-mem (x ∷ l) a = List·Memᴰ·tail (last-mem l a)
@@ -113,10 +113,10 @@ module _ (t : List ℤ) (n h p k : ℕ) (headings : List ℕ) (pool : List ℤ) 
         ∙ ap (afterEntry t (n - (k + 1)) k (s .before) room)
         (ap (λ (m : ℕ). judged (s .before) (m - length (joined (s .before))) (entryAt t k)) (sym (e ∙ s .cells)) ∙ j)
 
-    pub standing-refused : (m : ℕ) (numbers : List ℕ) → Entered t k (s .before) (Entry.Refused m) numbers cells → entries t n 0 [] p ≡ refusedAt m k
-    standing-refused m numbers j = next-is (refused m) j
+    pub standing-refused : (m : Refusal) (numbers : List ℕ) → Entered t k (s .before) (Appended.Refused m) numbers cells → entries t n 0 [] p ≡ refusedAt (numberOf m) k
+    standing-refused m numbers j = next-is (refused (numberOf m)) (j .0)
 
-    pub standing-more : (end : ℕ) (numbers : List ℕ) → length numbers ≡ length headings → Entered t k (s .before) (Entry.Ends end) numbers cells
+    pub standing-more : (end : ℕ) (numbers : List ℕ) → length numbers ≡ length headings → Entered t k (s .before) (Appended.Ends end) numbers cells
         → Standing t n h p (k + 1) numbers cells end
     standing-more end numbers f j =
         let r = j .0 in
@@ -139,11 +139,11 @@ module _ (t : List ℤ) (n h p k : ℕ) (headings : List ℕ) (pool : List ℤ) 
 -- ---- checks 1, 2 and 3
 
 pub outcome-refused : (t : List ℤ) (h p m : ℕ) (headings : List ℕ) (pool : List ℤ) → admitted t (h / headingLength) p ≡ refused m → Cleared h p headings pool
-    → Ended h p (outcome t (h / headingLength) p) (Conversion.Refused m 0) headings pool
+    → Left t h p (Conversion.Refused m 0) headings pool
 outcome-refused t h p m headings pool e = ended-refused h p m 0 _ headings pool (outcome-is t (h / headingLength) p ∙ ap (afterTable t p) e)
 
 pub outcome-entries : (t : List ℤ) (h p n : ℕ) (r : Conversion) (headings : List ℕ) (pool : List ℤ) → admitted t (h / headingLength) p ≡ answer n
-    → Ended h p (entries t n 0 [] p) r headings pool → Ended h p (outcome t (h / headingLength) p) r headings pool
+    → Ended h p (entries t n 0 [] p) r headings pool → Left t h p r headings pool
 outcome-entries t h p n r headings pool e =
     subst (λ (o : Outcome). Ended h p o r headings pool) (sym (outcome-is t (h / headingLength) p ∙ ap (afterTable t p) e))
 

@@ -1,78 +1,28 @@
--- What a conversion leaves in the lists that it was lent, read as document 01 reads it: rows by their headings.
+-- What a conversion leaves in the lists that it was lent, as it is computed.
 use mathlib.Core.Path.{_≡_}
 use mathlib.Core.List.{List}
-use Prim.Native.Nat.{ℕ, suc, _+_, _*_, _/_, _≤_, _<_}
+use Prim.Native.Nat.{ℕ, _/_}
 use lib.IntN.{ℤ}
-use lib.ListN.{length, getD, take, drop, replicate}
 use Rattle.calendar.specs.Limits.{headingLength}
-use Rattle.calendar.specs.Meaning.{Row, empty}
-use Rattle.calendar.specs.Outcome.{outcome}
+use Rattle.calendar.specs.Meaning.{Row}
+use Rattle.calendar.specs.Outcome.{Outcome, outcome}
 use Rattle.calendar.specs.Stored.{poolAfter, headingsAfter}
-use Rattle.algebra.specs.TableMeaning.{Meant, nothing, TableReply, TableMeans}
-use Rattle.algebra.specs.TableMeaning.TableReply.{refusedAt, means}
-use Rattle.algebra.specs.Represents.{Represents}
+use Rattle.algebra.specs.TableMeaning.{Meant, TableMeans}
+use Rattle.algebra.specs.TableMeaning.TableReply.{means}
 use Rattle.conversion.specs.Answers.{answered}
+use Rattle.conversion.specs.Shows.{rowAt}
 use Rattle.conversion.specs.declared.Conversion.{Conversion}
-use Rattle.conversion.specs.declared.Conversion.the-variants.{Refused, Converted}
+use Rattle.conversion.specs.declared.Conversion.the-variants.{Converted}
 
--- ---- headings and rows
+-- the answer and both lists, of h heading numbers and p cells, are those of the outcome o
+pub record Ended (h p : ℕ) (o : Outcome) (c : Conversion) (headings : List ℕ) (pool : List ℤ) : Type 0 where
+  pub answer : c ≡ answered o
+  pub numbers : headings ≡ headingsAfter h o
+  pub cells : pool ≡ poolAfter p o
 
--- "one record for each entry: start, period, distance", three numbers a heading: those of entry k
-abbrev pub startAt : List ℕ → ℕ → ℕ
-startAt headings k = getD headings (headingLength * k) 0
-
-abbrev pub periodAt : List ℕ → ℕ → ℕ
-periodAt headings k = getD headings (headingLength * k + 1) 0
-
-abbrev pub distanceAt : List ℕ → ℕ → ℕ
-distanceAt headings k = getD headings (headingLength * k + 2) 0
-
--- the cell behind its row
-abbrev pub endAt : List ℕ → ℕ → ℕ
-endAt headings k = startAt headings k + periodAt headings k
-
--- "Its row is then the period and distance in its heading and that many cells as the period says, from its start on"
-abbrev pub rowAt : List ℕ → List ℤ → ℕ → Row
-rowAt headings pool k = record {
-  period = periodAt headings k;
-  distance = distanceAt headings k;
-  cells = take (periodAt headings k) (drop (startAt headings k) pool);
-}
-
--- ---- what `convert` leaves
-
--- the contract of `convert`, clause by clause: its answer to the table t and the lists afterwards, lent with h numbers and p cells of any content
-pub record Left (t : List ℤ) (h p : ℕ) (c : Conversion) (headings : List ℕ) (pool : List ℤ) : Type 0 where
-  pub answer : c ≡ answered (outcome t (h / headingLength) p)
-  pub numbers : headings ≡ headingsAfter h (outcome t (h / headingLength) p)
-  pub cells : pool ≡ poolAfter p (outcome t (h / headingLength) p)
-
--- ---- what the lists are to show, by what the table means
-
--- "The answer holds the number and the entry .. After any of 1 to 12 every pool cell is '.' and every heading zero."
-pub record ShowsRefusal (n k h p : ℕ) (c : Conversion) (headings : List ℕ) (pool : List ℤ) : Type 0 where
-  pub answer : c ≡ Refused n k
-  pub numbers : headings ≡ replicate h 0
-  pub cells : pool ≡ replicate p empty
-
--- the entries mean ms, one by one, and their rows stand in the lists
-pub record ShowsRows (ms : List Meant) (h p : ℕ) (c : Conversion) (headings : List ℕ) (pool : List ℤ) : Type 0 where
-  pub answer : c ≡ Converted
-  pub lengths : (length headings ≡ h) × (length pool ≡ p)
-  -- "The calendar it means is the one that the thirteen kinds give it", in the least form
-  pub rows : (k : ℕ) → k < length ms → Represents (getD ms k nothing) (rowAt headings pool k)
-  -- "Rows stand in it one behind the other from cell 0"
-  pub first : startAt headings 0 ≡ 0
-  pub next : (k : ℕ) → suc k < length ms → startAt headings (suc k) ≡ endAt headings k
-  -- "and cells behind the last row are '.'"
-  pub behind : (i : ℕ) → ((k : ℕ) → k < length ms → endAt headings k ≤ i) → getD pool i empty ≡ empty
-  -- "Headings beyond the last entry are zero", and "one or two left over are no heading and end as zero"
-  pub beyond : (i : ℕ) → headingLength * length ms ≤ i → getD headings i 0 ≡ 0
-
--- the answer and the lists, lent with h numbers and p cells, show what the table means
-abbrev pub Shows : TableReply → ℕ → ℕ → Conversion → List ℕ → List ℤ → Type 0
-Shows (refusedAt n k) = ShowsRefusal n k
-Shows (means ms) = ShowsRows ms
+-- the contract of `convert`: its answer to the table t and the lists afterwards, lent with h numbers and p cells of any content
+abbrev pub Left : List ℤ → ℕ → ℕ → Conversion → List ℕ → List ℤ → Type 0
+Left t h p c headings pool = Ended h p (outcome t (h / headingLength) p) c headings pool
 
 -- ---- answered tables
 

@@ -1,4 +1,4 @@
--- A table whose entries are due, and what became of it.
+-- A table whose entries are due, and lists that hold nothing.
 use mathlib.Core.Path.{_≡_}
 use mathlib.Core.List.{List, []}
 use Prim.Native.Nat.{ℕ, _*_, _≤_}
@@ -6,11 +6,7 @@ use lib.IntN.{ℤ}
 use lib.ListN.{length}
 use Rattle.calendar.specs.Meaning.{empty}
 use Rattle.calendar.specs.Limits.{poolLimit, entryLimit, headingLength}
-use Rattle.calendar.specs.Outcome.{Outcome}
-use Rattle.calendar.specs.Stored.{poolAfter, headingsAfter}
 use Rattle.calendar.specs.Lists.{filled}
-use Rattle.conversion.specs.declared.Conversion.{Conversion}
-use Rattle.conversion.specs.Answers.{answered}
 
 -- a list of h heading numbers and a pool of p cells hold nothing
 pub record Cleared (h p : ℕ) (headings : List ℕ) (pool : List ℤ) : Type 0 where
@@ -24,9 +20,3 @@ pub record TableDue (t : List ℤ) (n : ℕ) (headings : List ℕ) (pool : List 
   pub at-most : n ≤ entryLimit
   pub has-headings : headingLength * n ≤ length headings
   pub in-pool : length pool ≤ poolLimit
-
--- the answer and both lists, of h heading numbers and p cells, are those of the outcome o
-pub record Ended (h p : ℕ) (o : Outcome) (r : Conversion) (headings : List ℕ) (pool : List ℤ) : Type 0 where
-  pub answer : r ≡ answered o
-  pub numbers : headings ≡ headingsAfter h o
-  pub cells : pool ≡ poolAfter p o

@@ -2,16 +2,14 @@
 
 ghost use mathlib.Core.Path.{_≡_};
 ghost use mathlib.Core.List.{List, [], _++_};
-ghost use Prim.Native.Nat.{_-_, _/_, _≤_};
+ghost use Prim.Native.Nat.{_-_, _≤_};
 ghost use lib.ListN.{length, take, replicate};
-ghost use Rattle.calendar.specs.Limits.{headingLength};
 ghost use Rattle.calendar.specs.Meaning.{Row, empty};
-ghost use Rattle.calendar.specs.Outcome.{entries, outcome};
-ghost use Rattle.calendar.specs.Stored.{poolAfter, headingsAfter};
+ghost use Rattle.calendar.specs.Outcome.{entries};
 ghost use Rattle.calendar.specs.Lists.{filled};
 ghost use Rattle.row_entry.specs.Stores.{Stores, EntryDue, Entered};
-ghost use Rattle.conversion.specs.Answers.{answered};
-ghost use Rattle.conversion.specs.Tables.{Cleared, TableDue, Ended};
+ghost use Rattle.conversion.specs.Tables.{Cleared, TableDue};
+ghost use Rattle.conversion.specs.Left.{Ended, Left};
 use calendar::Calendar;
 use entries::Begun;
 use entries::Reading;
@@ -19,8 +17,8 @@ use entries::Reading;
 // How many numbers a heading has: start, period and distance.
 pub use row_entry::HEADING_LENGTH;
 
-// What converting one entry comes to: a refusal, by its number, or its row ends before that cell.
-pub use row_entry::Entry;
+// What converting one entry comes to: a refusal, or its row ends before that cell.
+pub use row_entry::Appended;
 
 // What converting a table comes to: a refusal, by its number and its entry (0 for 1 to 3), or rows and headings stand in the lists.
 pub enum Conversion {
@@ -28,14 +26,15 @@ pub enum Conversion {
     Converted,
 }
 
-// Converts the entry k behind the rows of the entries before it, which end before the cell `used`.
+// Converts the entry k behind the rows of the entries before it, which end before the cell `used`. After a refusal these and all headings are as they were, and
+// the cells behind are scratch.
 pub fn convert_entry(
     table: &[i32],
     k: usize,
     used: usize,
     headings: &mut [u32],
     pool: &mut [i32],
-) -> Entry
+) -> Appended
     requires { ⌜ EntryDue (now table) k (now headings) (now pool) used ⌝ }
     ensures lengths { λ r. ⌜ (length (now (headings .exit)) ≡ length (now (headings .entry))) × (length (now (pool .exit)) ≡ length (now (pool .entry))) ⌝ }
     ensures entered { λ r. ⌜ ((l : List Row) → length l ≡ k → Stores l (now (headings .entry)) (now (pool .entry)) used → Entered (now (table .entry)) k l r (now (headings .exit)) (now (pool .exit))) ⌝ }
@@ -43,8 +42,8 @@ pub fn convert_entry(
     let e = entries::entry_at(table, k);
     let reading = entries::read(e, k);
     match reading {
-        Reading::Refused(n) => Entry::Refused(n),
-        Reading::Named => row_entry::enter_named(e, k, used, headings, pool),
+        Reading::Refused(refusal) => Appended::Refused(refusal),
+        Reading::Named(named) => row_entry::enter_named(named, k, used, headings, pool),
     }
 }
 
@@ -88,11 +87,11 @@ fn convert_entries(table: &[i32], n: usize, headings: &mut [u32], pool: &mut [i3
     for k in 0..n {
         let entry = convert_entry(table, k, used, &mut *headings, &mut *pool);
         match entry {
-            Entry::Refused(number) => {
+            Appended::Refused(refusal) => {
                 clear(&mut *headings, &mut *pool);
-                return Conversion::Refused(number, k as u32);
+                return Conversion::Refused(refusal.number(), k as u32);
             }
-            Entry::Ends(end) => used = end,
+            Appended::Ends(end) => used = end,
         }
     }
     clear_cells(&mut *pool, used);
@@ -103,16 +102,14 @@ fn convert_entries(table: &[i32], n: usize, headings: &mut [u32], pool: &mut [i3
 // every number of a heading is zero. Refuses 1, 2 and 3 for the lists, with entry 0, and 4 to 12 for the first entry that calls for it. Costs time in proportion to span and
 // working period of each entry, and to its row for each divisor that is tried; no memory.
 pub fn convert(table: &[i32], headings: &mut [u32], pool: &mut [i32]) -> Conversion
-    ensures answer { λ r. ⌜ r ≡ answered (outcome (now (table .entry)) (length (now (headings .entry)) / headingLength) (length (now (pool .entry)))) ⌝ }
-    ensures headings { λ r. ⌜ now (headings .exit) ≡ headingsAfter (length (now (headings .entry))) (outcome (now (table .entry)) (length (now (headings .entry)) / headingLength) (length (now (pool .entry)))) ⌝ }
-    ensures pool { λ r. ⌜ now (pool .exit) ≡ poolAfter (length (now (pool .entry))) (outcome (now (table .entry)) (length (now (headings .entry)) / headingLength) (length (now (pool .entry)))) ⌝ }
+    ensures { λ r. ⌜ Left (now (table .entry)) (length (now (headings .entry))) (length (now (pool .entry))) r (now (headings .exit)) (now (pool .exit)) ⌝ }
 {
     clear_headings(&mut *headings);
     let begun = entries::begin(table, headings.len() / HEADING_LENGTH, pool.len());
     match begun {
-        Begun::Refused(number) => {
+        Begun::Refused(refusal) => {
             clear_cells(&mut *pool, 0);
-            Conversion::Refused(number, 0)
+            Conversion::Refused(refusal.number(), 0)
         }
         Begun::Entries(n) => convert_entries(table, n, &mut *headings, &mut *pool),
     }

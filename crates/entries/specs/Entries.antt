@@ -3,13 +3,11 @@ use mathlib.Core.Bool.{Bool, _&&_, _||_}
 use Prim.Native.Nat.{ℕ}
 use lib.Dec.{leb, ltb}
 use lib.ListN.{getD}
-use Rattle.calendar.specs.Operation.{Operation}
 use Rattle.calendar.specs.Reply.{Reply}
 use Rattle.calendar.specs.Reply.Reply.{refused, answer}
+use Rattle.calendar.specs.Refusals.{numberOf}
 use Rattle.calendar.specs.Table as Table
 use Rattle.entries.specs.declared.Entry.{Entry}
-use Rattle.entries.specs.declared.Reading.{Reading}
-use Rattle.entries.specs.declared.Reading.the-variants as Reading
 use Rattle.entries.specs.declared.Begun.{Begun}
 use Rattle.entries.specs.declared.Begun.the-variants as Begun
 
@@ -29,12 +27,7 @@ operandsEarlier n k e = (ltb n 1 || Table.earlier k (e .first)) && (ltb n 2 || T
 abbrev pub othersZero : ℕ → Table.Entry → Bool
 othersZero n e = (leb 1 n || Table.zero? (e .first)) && (leb 2 n || Table.zero? (e .second))
 
--- an operation is read where none of checks 4, 5 and 6 refuses the entry
-abbrev pub reading : Reply (Operation ℕ) → Reading
-reading (refused n) = Reading.Refused n
-reading (answer o) = Reading.Named
-
--- so many entries stand to be converted where none of checks 1, 2 and 3 refuses the table
-abbrev pub begun : Reply ℕ → Begun
-begun (refused n) = Begun.Refused n
-begun (answer n) = Begun.Entries n
+-- what checks 1, 2 and 3 come to
+abbrev pub begunReply : Begun → Reply ℕ
+begunReply (Begun.Refused x) = refused (numberOf x)
+begunReply (Begun.Entries n) = answer n

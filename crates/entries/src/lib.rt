@@ -1,4 +1,4 @@
-// The six numbers of a table's entry, and the checks that need no row: 1 to 3 for the table, 4 to 6 for an entry.
+// The six numbers of a table's entry, the checks that need no row (1 to 3 for the table, 4 to 6 for an entry), and what an entry names.
 
 ghost use mathlib.Core.Path.{_≡_};
 ghost use mathlib.Core.Bool.{_&&_};
@@ -6,11 +6,15 @@ ghost use Prim.Native.Nat.{_+_, _*_, _<_};
 ghost use lib.ListN.{length};
 ghost use Rattle.calendar.specs.Limits as Limits;
 ghost use Rattle.calendar.specs.Table as Table;
-ghost use Rattle.entries.specs.Entries.{entryOf, kindOf, operandsEarlier, othersZero, reading, begun};
+ghost use Rattle.entries.specs.Entries.{entryOf, kindOf, operandsEarlier, othersZero, begunReply};
+ghost use Rattle.entries.specs.Naming.{Reads};
 use calendar::Calendar;
 use calendar::ENTRY_LIMIT;
 use calendar::POOL_LIMIT;
 use calendar::Refusal;
+use kinds::Kind;
+
+mod naming;
 
 // How many numbers an entry has.
 pub const ENTRY_LENGTH: usize = 6;
@@ -148,50 +152,57 @@ fn others_zero(count: u32, e: Entry) -> bool
     (1 <= count || is_zero(e.first)) && (2 <= count || is_zero(e.second))
 }
 
-// What checks 4, 5 and 6 come to: a refusal, by its number, or the entry names an operation.
-pub enum Reading {
-    Refused(u32),
-    Named,
+// An operation over the rows of earlier entries: its kind and its operands. A kind that names fewer than two is given the first one twice.
+pub struct Named {
+    pub kind: Kind,
+    pub first: usize,
+    pub second: usize,
 }
 
-// Checks 4, 5 and 6 of the entry behind so many others.
+// What checks 4, 5 and 6 come to: a refusal, or what the entry names.
+pub enum Reading {
+    Refused(Refusal),
+    Named(Named),
+}
+
+// Reads the entry behind so many others, by checks 4, 5 and 6.
 pub fn read(e: Entry, before: usize) -> Reading
-    ensures { λ r. ⌜ r ≡ reading (Table.named before (entryOf e)) ⌝ }
+    ensures { λ r. ⌜ Reads before (Table.named before (entryOf e)) r ⌝ }
 {
     if !between(0, LAST_KIND, e.kind) {
-        return Reading::Refused(Refusal::UnknownKind.number());
+        return Reading::Refused(Refusal::UnknownKind);
     }
     let kind = e.kind as usize;
     let count = operands(kind);
     if !operands_earlier(count, e, before) {
-        return Reading::Refused(Refusal::OperandNotEarlier.number());
+        return Reading::Refused(Refusal::OperandNotEarlier);
     }
     if others_zero(count, e) && numbers(kind, e) {
-        Reading::Named
+        Reading::Named(naming::names(e))
     } else {
-        Reading::Refused(Refusal::NumberOutsideLimits.number())
+        Reading::Refused(Refusal::NumberOutsideLimits)
     }
 }
 
-// What checks 1, 2 and 3 come to: a refusal, by its number, or how many entries the table has.
+// What checks 1, 2 and 3 come to: a refusal, or how many entries the table has.
 pub enum Begun {
-    Refused(u32),
+    Refused(Refusal),
     Entries(usize),
 }
 
 // Checks 1, 2 and 3 of a table for which so many headings and so many cells are lent.
 pub fn begin(table: &[i32], headings: usize, pool: usize) -> Begun
-    ensures { λ r. ⌜ r ≡ begun (Table.admitted (now (table .entry)) headings pool) ⌝ }
+    ensures { λ r. ⌜ begunReply r ≡ Table.admitted (now (table .entry)) headings pool ⌝ }
 {
     let entries = table.len() / ENTRY_LENGTH;
     if table.len() % ENTRY_LENGTH != 0 || entries < 1 || entries > ENTRY_LIMIT {
-        return Begun::Refused(Refusal::TableLength.number());
+        return Begun::Refused(Refusal::TableLength);
     }
     if headings < entries {
-        return Begun::Refused(Refusal::TooFewHeadings.number());
+        return Begun::Refused(Refusal::TooFewHeadings);
     }
     if pool > POOL_LIMIT {
-        return Begun::Refused(Refusal::PoolTooLong.number());
+        return Begun::Refused(Refusal::PoolTooLong);
     }
     Begun::Entries(entries)
 }

@@ -28,7 +28,8 @@ use Rattle.conversion.proofs.Headings.{filled-behind, headings-length}
 use Rattle.conversion.proofs.LeftRows.{means-length}
 use Rattle.hand_proofs.specs.Tabled.{tabled}
 use Rattle.headings.specs.declared.Heading.{Heading}
-use Rattle.headings.specs.Records.{recordsFrom, noHeading, recordsAfter, recordAt, recordsOf}
+use Rattle.headings.specs.Records.{noHeading}
+use Rattle.headings.specs.LeftRecords.{recordsFrom, recordsAfter, recordAt, recordsOf}
 
 -- ---- how many headings are lent
 

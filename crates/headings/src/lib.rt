@@ -1,12 +1,13 @@
 // The conversion of a table with a record for each heading.
 
 ghost use mathlib.Core.Path.{_≡_};
+ghost use Prim.Native.Nat.{_*_};
 ghost use lib.ListN.{length};
 ghost use Rattle.calendar.specs.Limits.{entryLimit, headingLength};
 ghost use Rattle.calendar.specs.Outcome.{outcome};
 ghost use Rattle.calendar.specs.Stored.{poolAfter, headingsAfter};
 ghost use Rattle.conversion.specs.Answers.{answered};
-ghost use Rattle.headings.specs.Records.{recordAt, recordsOf, recordsAfter};
+ghost use Rattle.headings.specs.LeftRecords.{recordAt, recordsOf, LeftRecords};
 use calendar::ENTRY_LIMIT;
 use conversion::Conversion;
 use conversion::HEADING_LENGTH;
@@ -75,9 +76,7 @@ fn write_all(headings: &mut [Heading], m: Made)
 // heading is zero. Refuses 1, 2 and 3 for the lists, with entry 0, and 4 to 12 for the first entry that calls for it. Costs time in proportion to span and working period of each
 // entry, and to its row for each divisor that is tried; no memory.
 pub fn convert(table: &[i32], headings: &mut [Heading], pool: &mut [i32]) -> Conversion
-    ensures { λ r. ⌜ (r ≡ answered (outcome (now (table .entry)) (length (now (headings .entry))) (length (now (pool .entry)))))
-        × (now (headings .exit) ≡ recordsAfter (length (now (headings .entry))) (outcome (now (table .entry)) (length (now (headings .entry))) (length (now (pool .entry)))))
-        × (now (pool .exit) ≡ poolAfter (length (now (pool .entry))) (outcome (now (table .entry)) (length (now (headings .entry))) (length (now (pool .entry))))) ⌝ }
+    ensures { λ r. ⌜ LeftRecords (now (table .entry)) (length (now (headings .entry))) (length (now (pool .entry))) r (now (headings .exit)) (now (pool .exit)) ⌝ }
 {
     let m = convert_made(table, headings.len(), pool);
     write_all(headings, m);

@@ -16,7 +16,7 @@ use Rattle.calendar.specs.Size.{turn, spanOf, span, alterTurn}
 use Rattle.calendar.specs.Distance.{size}
 use Rattle.calendar.specs.Checks.{fullOperands, aligned, alignedAs, emptied}
 use Rattle.calendar.specs.Reply.{Reply, require}
-use Rattle.calendar.specs.Reply.Reply.{refused, answer}
+use Rattle.calendar.specs.Reply.Reply.{answer}
 pub use Rattle.granules.proofs.Replies.{passed, failed}
 use Rattle.operand_checks.specs.declared.Extent.{Extent}
 use Rattle.operand_checks.specs.Admission.{admission}

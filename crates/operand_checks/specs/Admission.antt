@@ -8,6 +8,7 @@ use Rattle.calendar.specs.Operation.{Operation, mapOperation}
 use Rattle.calendar.specs.Size.{turn, span}
 use Rattle.calendar.specs.Distance.{size}
 use Rattle.calendar.specs.Checks.{fullOperands, aligned, emptied}
+use Rattle.calendar.specs.Refusals.{numberOf}
 use Rattle.calendar.specs.Reply.{Reply, require}
 use Rattle.calendar.specs.Reply.Reply.{refused, answer}
 use Rattle.operand_checks.specs.declared.Extent.{Extent}
@@ -18,7 +19,7 @@ use Rattle.operand_checks.specs.declared.Checked.the-variants.{Refused, 
 abbrev pub extent : Operation Row → Extent
 extent o = record { span = pos (span (mapOperation turn o)); period = pos (size o .period); distance = pos (size o .distance) }
 
--- 7, "8 for the span", 9, 10, "8 for the working period": the beginning of `Table.converted`
+-- 7, "8 for the span", 9, 10, "8 for the working period": the beginning of `Outcome.converted`
 abbrev pub admission : Operation Row → ℕ → Reply Extent
 admission o room =
     require 7 (fullOperands o)
@@ -28,6 +29,7 @@ admission o room =
     (require 8 (leb (size o .period) room)
     (answer (extent o))))))
 
-abbrev pub checkedOf : Reply Extent → Checked
-checkedOf (refused n) = Refused n
-checkedOf (answer e) = Passed e
+-- what the checks come to
+abbrev pub checkedReply : Checked → Reply Extent
+checkedReply (Refused x) = refused (numberOf x)
+checkedReply (Passed e) = answer e

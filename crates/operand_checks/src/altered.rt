@@ -15,7 +15,7 @@ ghost use Rattle.cursors.specs.Found.{Sound};
 ghost use Rattle.alignment.specs.Pass.{Spanned, Limited};
 ghost use Rattle.kinds.specs.Limits.{Limits};
 ghost use Rattle.alter_granules.specs.Given.{altering};
-ghost use Rattle.operand_checks.specs.Admission.{admission, checkedOf};
+ghost use Rattle.operand_checks.specs.Admission.{admission, checkedReply};
 ghost use Rattle.operand_checks.specs.Shared.{IsRoom, turnFor, fitted, alterExtent, behindSpan};
 use super::Checked;
 use super::Extent;
@@ -41,14 +41,14 @@ fn sized(
     requires { ⌜ span ≤ℤ pos poolLimit ⌝ }
     requires { ⌜ pos 1 ≤ℤ Size.fine (turnOf (turnFor «a_period» «a_distance»)) (turnOf (turnFor «b_period» «b_distance»)) (up (by .x)) (by .z) ⌝ }
     requires { ⌜ pos (Size.coarse (turnOf (turnFor «a_period» «a_distance»)) (turnOf (turnFor «b_period» «b_distance»)) (up (by .x))) ≤ℤ Size.fine (turnOf (turnFor «a_period» «a_distance»)) (turnOf (turnFor «b_period» «b_distance»)) (up (by .x)) (by .z) ⌝ }
-    ensures { λ r. ⌜ r ≡ checkedOf (fitted (alterExtent span (alterTurn (turnOf (turnFor «a_period» «a_distance»)) (turnOf (turnFor «b_period» «b_distance»)) (up (by .x)) (by .z))) (up room)) ⌝ }
+    ensures { λ r. ⌜ checkedReply r ≡ fitted (alterExtent span (alterTurn (turnOf (turnFor «a_period» «a_distance»)) (turnOf (turnFor «b_period» «b_distance»)) (up (by .x)) (by .z))) (up room) ⌝ }
 {
     let a = super::spanning::turn_of(a_period, a_distance);
     let b = super::spanning::turn_of(b_period, b_distance);
     let n = sizes::altering_of(a, b, by.x as u64, by.z, span as u64);
     let working = sizes::alter_period(a, n.fine, room as u64);
     let Capped::Within(period) = working else {
-        return Checked::Refused(Refusal::TooLong.number());
+        return Checked::Refused(Refusal::TooLong);
     };
     let distance = sizes::alter_distance(a, n.coarse, n.fine);
     Checked::Passed(Extent {
@@ -77,7 +77,7 @@ fn aligned(
     requires { ⌜ full (given «a_period» «a_distance» (now «a_cells»)) ≡ true ⌝ }
     requires { ⌜ full (given «b_period» «b_distance» (now «b_cells»)) ≡ true ⌝ }
     requires { ⌜ Spanned (given «a_period» «a_distance» (now «a_cells»)) (given «b_period» «b_distance» (now «b_cells»)) span ⌝ }
-    ensures { λ r. ⌜ r ≡ checkedOf (behindSpan (altering by (given «a_period» «a_distance» (now («a_cells» .entry))) (given «b_period» «b_distance» (now («b_cells» .entry)))) (up room)) ⌝ }
+    ensures { λ r. ⌜ checkedReply r ≡ behindSpan (altering by (given «a_period» «a_distance» (now («a_cells» .entry))) (given «b_period» «b_distance» (now («b_cells» .entry)))) (up room) ⌝ }
 {
     if !alignment::partitions(
         a_cells,
@@ -88,7 +88,7 @@ fn aligned(
         b_distance,
         span,
     ) {
-        return Checked::Refused(Refusal::NotAligned.number());
+        return Checked::Refused(Refusal::NotAligned);
     }
     if alter_granules::emptied(
         by,
@@ -100,7 +100,7 @@ fn aligned(
         b_period,
         b_distance,
     ) {
-        return Checked::Refused(Refusal::GranuleEmptied.number());
+        return Checked::Refused(Refusal::GranuleEmptied);
     }
     sized(by, room, span, a_period, a_distance, b_period, b_distance)
 }
@@ -120,17 +120,17 @@ pub fn alter(
     requires { ⌜ IsRoom room ⌝ }
     requires { ⌜ Sound «a_period» «a_distance» (now «a_cells») ⌝ }
     requires { ⌜ Sound «b_period» «b_distance» (now «b_cells») ⌝ }
-    ensures { λ r. ⌜ r ≡ checkedOf (admission (altering by (given «a_period» «a_distance» (now («a_cells» .entry))) (given «b_period» «b_distance» (now («b_cells» .entry)))) (up room)) ⌝ }
+    ensures { λ r. ⌜ checkedReply r ≡ admission (altering by (given «a_period» «a_distance» (now («a_cells» .entry))) (given «b_period» «b_distance» (now («b_cells» .entry)))) (up room) ⌝ }
 {
     if !super::is_full(a_cells, a_period, a_distance) {
-        return Checked::Refused(Refusal::OperandNotFull.number());
+        return Checked::Refused(Refusal::OperandNotFull);
     }
     if !super::is_full(b_cells, b_period, b_distance) {
-        return Checked::Refused(Refusal::OperandNotFull.number());
+        return Checked::Refused(Refusal::OperandNotFull);
     }
     let capped = super::spanning::span_of(room, a_period, a_distance, b_period, b_distance);
     let Capped::Within(s) = capped else {
-        return Checked::Refused(Refusal::TooLong.number());
+        return Checked::Refused(Refusal::TooLong);
     };
     aligned(
         by,

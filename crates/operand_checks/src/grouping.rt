@@ -11,7 +11,7 @@ ghost use Rattle.calendar.specs.Limits.{million};
 ghost use Rattle.sizes.specs.Stored.{turnOf};
 ghost use Rattle.cursors.specs.Found.{Sound};
 ghost use Rattle.alignment.specs.Pass.{Limited};
-ghost use Rattle.operand_checks.specs.Admission.{admission, checkedOf};
+ghost use Rattle.operand_checks.specs.Admission.{admission, checkedReply};
 ghost use Rattle.operand_checks.specs.Shared as Shared;
 ghost use Rattle.operand_checks.specs.Shared.{IsRoom, turnFor};
 use super::Checked;
@@ -24,13 +24,13 @@ fn grouped(x: i64, room: i64, period: i64, distance: i64) -> Checked
     requires { ⌜ pos 1 ≤ℤ x ⌝ }
     requires { ⌜ IsRoom room ⌝ }
     requires { ⌜ Limited period distance ⌝ }
-    ensures { λ r. ⌜ r ≡ checkedOf (Shared.grouped (up x) (turnOf (turnFor period distance)) (up room)) ⌝ }
+    ensures { λ r. ⌜ checkedReply r ≡ Shared.grouped (up x) (turnOf (turnFor period distance)) (up room) ⌝ }
 {
     let a = super::spanning::turn_of(period, distance);
     let times = x as u64;
     let working = sizes::group_period(a, times, room as u64);
     let Capped::Within(p) = working else {
-        return Checked::Refused(Refusal::TooLong.number());
+        return Checked::Refused(Refusal::TooLong);
     };
     let common = integers::gcd(times, a.distance);
     Checked::Passed(Extent {
@@ -45,10 +45,10 @@ pub fn group(x: i64, room: i64, cells: &[i32], period: i64, distance: i64) -> Ch
     requires { ⌜ (pos 1 ≤ℤ x) × (x ≤ℤ million) ⌝ }
     requires { ⌜ IsRoom room ⌝ }
     requires { ⌜ Sound period distance (now cells) ⌝ }
-    ensures { λ r. ⌜ r ≡ checkedOf (admission (unary (O.Unary.group (up x)) (given period distance (now (cells .entry)))) (up room)) ⌝ }
+    ensures { λ r. ⌜ checkedReply r ≡ admission (unary (O.Unary.group (up x)) (given period distance (now (cells .entry)))) (up room) ⌝ }
 {
     if !super::is_full(cells, period, distance) {
-        return Checked::Refused(Refusal::OperandNotFull.number());
+        return Checked::Refused(Refusal::OperandNotFull);
     }
     grouped(x, room, period, distance)
 }

@@ -9,7 +9,7 @@ ghost use Rattle.calendar.specs.Limits.{poolLimit};
 ghost use Rattle.calendar.specs.Questions.{given};
 ghost use Rattle.cursors.specs.Found.{Sound};
 ghost use Rattle.kinds.specs.Operations.{operationOf, operands, Numbers, SoundFirst};
-ghost use Rattle.operand_checks.specs.Admission.{admission, checkedOf};
+ghost use Rattle.operand_checks.specs.Admission.{admission, checkedReply};
 ghost use Rattle.operand_checks.specs.Shared.{IsRoom, wholeTurn, fitted};
 use alignment::Alignment;
 use calendar::Refusal;
@@ -26,9 +26,9 @@ pub struct Extent {
     pub distance: i64,
 }
 
-// What the checks come to: a refusal, by its number, or how far the working row reaches.
+// What the checks come to: a refusal, or how far the working row reaches.
 pub enum Checked {
-    Refused(u32),
+    Refused(Refusal),
     Passed(Extent),
 }
 
@@ -43,7 +43,7 @@ fn is_full(cells: &[i32], period: i64, distance: i64) -> bool
 // 8, where span and working period are those of the one operand, or 1.
 fn whole(room: i64, period: i64, distance: i64) -> Checked
     requires { ⌜ IsRoom room ⌝ }
-    ensures { λ r. ⌜ r ≡ checkedOf (fitted (wholeTurn period distance) (up room)) ⌝ }
+    ensures { λ r. ⌜ checkedReply r ≡ fitted (wholeTurn period distance) (up room) ⌝ }
 {
     if period <= room {
         Checked::Passed(Extent {
@@ -52,7 +52,7 @@ fn whole(room: i64, period: i64, distance: i64) -> Checked
             distance: distance,
         })
     } else {
-        Checked::Refused(Refusal::TooLong.number())
+        Checked::Refused(Refusal::TooLong)
     }
 }
 
@@ -70,7 +70,7 @@ pub fn check(
     requires { ⌜ Numbers kind ⌝ }
     requires { ⌜ SoundFirst (operands kind) (given «a_period» «a_distance» (now «a_cells»)) (given «b_period» «b_distance» (now «b_cells»)) ⌝ }
     requires { ⌜ (pos 0 ≤ℤ room) × (room ≤ℤ pos poolLimit) ⌝ }
-    ensures { λ r. ⌜ r ≡ checkedOf (admission (operationOf kind (given «a_period» «a_distance» (now («a_cells» .entry))) (given «b_period» «b_distance» (now («b_cells» .entry)))) (up room)) ⌝ }
+    ensures { λ r. ⌜ checkedReply r ≡ admission (operationOf kind (given «a_period» «a_distance» (now («a_cells» .entry))) (given «b_period» «b_distance» (now («b_cells» .entry)))) (up room) ⌝ }
 {
     match kind {
         Kind::Bottom => whole(room, 1, 1),

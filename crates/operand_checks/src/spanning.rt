@@ -13,7 +13,7 @@ ghost use Rattle.calendar.specs.Questions.{given};
 ghost use Rattle.sizes.specs.Stored.{turnOf};
 ghost use Rattle.cursors.specs.Found.{Sound};
 ghost use Rattle.alignment.specs.Pass.{Limited};
-ghost use Rattle.operand_checks.specs.Admission.{admission, checkedOf};
+ghost use Rattle.operand_checks.specs.Admission.{admission, checkedReply};
 ghost use Rattle.operand_checks.specs.Shared as Shared;
 ghost use Rattle.operand_checks.specs.Shared.{IsRoom, turnFor, alignmentOf, overSpan};
 use super::Checked;
@@ -75,11 +75,11 @@ pub fn spanned(
     requires { ⌜ Sound «a_period» «a_distance» (now «a_cells») ⌝ }
     requires { ⌜ Sound «b_period» «b_distance» (now «b_cells») ⌝ }
     requires { ⌜ IsRoom room ⌝ }
-    ensures { λ r. ⌜ r ≡ checkedOf (Shared.spanned (alignmentOf k) (given «a_period» «a_distance» (now («a_cells» .entry))) (given «b_period» «b_distance» (now («b_cells» .entry))) (up room)) ⌝ }
+    ensures { λ r. ⌜ checkedReply r ≡ Shared.spanned (alignmentOf k) (given «a_period» «a_distance» (now («a_cells» .entry))) (given «b_period» «b_distance» (now («b_cells» .entry))) (up room) ⌝ }
 {
     let capped = span_of(room, a_period, a_distance, b_period, b_distance);
     let Capped::Within(s) = capped else {
-        return Checked::Refused(Refusal::TooLong.number());
+        return Checked::Refused(Refusal::TooLong);
     };
     let span = s as i64;
     if alignment::aligned(
@@ -94,7 +94,7 @@ pub fn spanned(
     ) {
         Checked::Passed(over_span(span, a_period, a_distance))
     } else {
-        Checked::Refused(Refusal::NotAligned.number())
+        Checked::Refused(Refusal::NotAligned)
     }
 }
 
@@ -111,10 +111,10 @@ pub fn anchor(
     requires { ⌜ Sound «a_period» «a_distance» (now «a_cells») ⌝ }
     requires { ⌜ Sound «b_period» «b_distance» (now «b_cells») ⌝ }
     requires { ⌜ IsRoom room ⌝ }
-    ensures { λ r. ⌜ r ≡ checkedOf (admission (binary O.Binary.anchor (given «a_period» «a_distance» (now («a_cells» .entry))) (given «b_period» «b_distance» (now («b_cells» .entry)))) (up room)) ⌝ }
+    ensures { λ r. ⌜ checkedReply r ≡ admission (binary O.Binary.anchor (given «a_period» «a_distance» (now («a_cells» .entry))) (given «b_period» «b_distance» (now («b_cells» .entry)))) (up room) ⌝ }
 {
     if !super::is_full(a_cells, a_period, a_distance) {
-        return Checked::Refused(Refusal::OperandNotFull.number());
+        return Checked::Refused(Refusal::OperandNotFull);
     }
     spanned(
         Alignment::Subcalendar,

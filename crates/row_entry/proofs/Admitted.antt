@@ -25,9 +25,7 @@ use Rattle.algebra.proofs.OperandChecks.{fullOperands-iff, aligned-iff}
 use Rattle.algebra.proofs.EmptiedCheck.{emptied-iff}
 use Rattle.algebra.proofs.Converted.{converted-checks}
 use Rattle.operand_checks.specs.declared.Extent.{Extent}
-use Rattle.operand_checks.specs.declared.Checked.{Checked}
-use Rattle.operand_checks.specs.declared.Checked.the-variants.{Refused, Passed}
-use Rattle.operand_checks.specs.Admission.{extent, admission, checkedOf}
+use Rattle.operand_checks.specs.Admission.{extent, admission}
 use Rattle.fill_shared.specs.declared.Filled.{Filled}
 use Rattle.fill_shared.specs.declared.Filled.the-variants.{Labelled, Unlabelled, OutOfRange}
 use Rattle.fill_shared.specs.Placed.{filledAs}
@@ -64,16 +62,6 @@ refused-before o room n h =
     (require-refused 10 n (not (emptied o)) _ _
     (require-refused 8 n (leb (size o .period) room) (answer (extent o)) _
     (λ e. let z : _≡_ {A = ℕ} 0 1 = cc in absurd (omega arith)))))) h
-
--- ---- what the answer of the checks says
-
-pub checked-refused : (r : Reply Extent) (c : Checked) (n : ℕ) → c ≡ checkedOf r → c ≡ Refused n → r ≡ refused n
-checked-refused (refused m) c n e d = let z : m ≡ n = cc in ap refused z
-checked-refused (answer x) c n e d = let z : _≡_ {A = ℕ} 0 1 = cc in absurd (omega arith)
-
-pub checked-passed : (r : Reply Extent) (c : Checked) (x : Extent) → c ≡ checkedOf r → c ≡ Passed x → r ≡ answer x
-checked-passed (refused m) c x e d = let z : _≡_ {A = ℕ} 0 1 = cc in absurd (omega arith)
-checked-passed (answer y) c x e d = let z : y ≡ x = cc in ap answer z
 
 -- ---- what the labels of the working row are
 

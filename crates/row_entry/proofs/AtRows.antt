@@ -2,8 +2,8 @@
 -- Assumes nothing.
 use mathlib.Core.Path.{_≡_, refl, sym, _∙_, ap, ap₂, subst}
 use mathlib.Core.Bool.{true}
-use mathlib.Core.List.{List, [], _∷_, List·Memᴰ, List·Memᴰ·head, List·Memᴰ·tail}
-use Prim.Native.Nat.{ℕ, zero, suc, _-_, _*_, _+_, _≤_, _<_}
+use mathlib.Core.List.{List}
+use Prim.Native.Nat.{ℕ, _-_, _*_, _+_, _≤_, _<_}
 use native.Mathlib.Omega.{arith}
 use lib.IntN.{ℤ}
 use lib.ListN.{length, getD}
@@ -12,24 +12,21 @@ use Rattle.calendar.specs.Meaning.{Row, bottomRow}
 use Rattle.calendar.specs.Operation.{Operation, mapOperation}
 use Rattle.calendar.specs.Sound.{sound}
 use Rattle.calendar.specs.Limits.{poolLimit, headingLength}
-use Rattle.calendar.specs.Reply.{Reply, andThen}
-use Rattle.calendar.specs.Reply.Reply.{answer}
-use Rattle.calendar.specs.Table.{Entry, named}
-use Rattle.calendar.specs.Outcome.{converted, judged, atRows}
+use Rattle.calendar.specs.Outcome.{converted, atRows}
 use Rattle.algebra.specs.Ready.{Operands}
 use Rattle.algebra.proofs.Operations.{operands-weaken}
-use Rattle.algebra.proofs.Named.{named-operation}
-use Rattle.algebra.proofs.Steps.{judged-is}
+use Rattle.algebra.proofs.Stored.{getD-mem}
 use Rattle.kinds.specs.declared.Kind.{Kind}
 use Rattle.kinds.specs.declared.Kind.the-variants.{Bottom, Group, Shift, Alter, Combine, Anchor, Select, ByLabels, Renumber}
 use Rattle.kinds.specs.declared.Operand.{Operand}
 use Rattle.kinds.specs.Operations.{operationOf, operands, SoundFirst}
 use Rattle.kinds.specs.Stands.{rowIn}
-use Rattle.naming.specs.declared.Named.{Named}
-use Rattle.naming.specs.Naming.{Names}
-use Rattle.row_entry.specs.declared.Entry as Code
+use Rattle.entries.specs.declared.Named.{Named}
+use Rattle.entries.specs.Naming.{Names}
+use Rattle.fill_shared.specs.Placed.{over}
+use Rattle.row_entry.specs.declared.Appended.{Appended}
 use Rattle.row_entry.specs.Stores.{Stores}
-use Rattle.row_entry.specs.Entering.{operandOf, over, Before, Enterable, Became}
+use Rattle.row_entry.specs.Entering.{operandOf, Before, Enterable, Became}
 use Rattle.row_entry.proofs.Standing.{operand-ends, operand-row}
 
 -- ---- kind by kind
@@ -63,19 +60,14 @@ both-sound P i j (Renumber x) e h = again (λ n. sound (P n) ≡ true) i j (e (o
 
 -- ---- in a pool
 
-pub getD-mem : {A : Type 0} (l : List A) (d : A) (k : ℕ) → k < length l → List·Memᴰ (getD l k d) l
-getD-mem [] d k h = absurd (omega arith)
-getD-mem (a ∷ l) d zero h = List·Memᴰ·head refl
-getD-mem (a ∷ l) d (suc k) h = List·Memᴰ·tail (getD-mem l d k (omega arith))
-
 module _ (l : List Row) (k : ℕ) (headings : List ℕ) (pool : List ℤ) (used : ℕ) (many : length l ≡ k) (s : Stores l headings pool used)
-    (e : Entry) (o : Operation ℕ) (h : named k e ≡ answer o) (n : Named) (names : Names k o n)
+    (n : Named) (o : Operation ℕ) (names : Names k o n)
     (a b : Operand) (a-is : a ≡ operandOf headings (n .first)) (b-is : b ≡ operandOf headings (n .second)) where
   abbrev row : ℕ → Row
   row j = rowIn pool (operandOf headings j)
 
   earlier : Operands (λ j. j < length l) (operationOf (n .kind) (n .first) (n .second))
-  earlier = rw (names .is, many) (named-operation k e o h .1)
+  earlier = rw (names .is, many) (names .earlier)
 
   rows-are : over (n .kind) pool (operandOf headings (n .first)) (operandOf headings (n .second)) ≡ atRows l o
   rows-are =
@@ -107,13 +99,7 @@ module _ (l : List Row) (k : ℕ) (headings : List ℕ) (pool : List ℤ) (used 
         has-heading = heading;
       })
 
-  -- the entry is judged as the operation is converted
-  judged-as : (room : ℕ) → converted (over (n .kind) pool a b) room ≡ judged l room e
-  judged-as room =
-      ap (λ (o : Operation Row). converted o room) over-is
-      ∙ sym (judged-is l room e ∙ ap (λ (x : Reply (Operation ℕ)). andThen x (λ o. converted (atRows l o) room)) (ap (λ (n : ℕ). named n e) many ∙ h))
-
-  pub became-as : (c : Code.Entry) (numbers : List ℕ) (after : List ℤ)
+  pub became-as : (c : Appended) (numbers : List ℕ) (after : List ℤ)
       → Became k used headings pool (converted (over (n .kind) pool a b) (length pool - used)) c numbers after
-      → Became k used headings pool (judged l (length pool - used) e) c numbers after
-  became-as c numbers after = subst (λ (x : Reply Row). Became k used headings pool x c numbers after) (judged-as (length pool - used))
+      → Became k used headings pool (converted (atRows l o) (length pool - used)) c numbers after
+  became-as c numbers after = subst (λ (x : Operation Row). Became k used headings pool (converted x (length pool - used)) c numbers after) over-is

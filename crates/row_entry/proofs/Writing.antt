@@ -33,11 +33,11 @@ use Rattle.kinds.specs.declared.Kind.{Kind}
 use Rattle.kinds.specs.declared.Operand.{Operand}
 use Rattle.kinds.specs.Stands.{rowIn}
 use Rattle.fill_shared.specs.Given.{Given}
-use Rattle.fill_shared.specs.Placed.{Placed, filledAs}
+use Rattle.fill_shared.specs.Placed.{Placed, over, filledAs}
 use Rattle.fill_shared.specs.declared.Filled.{Filled}
 use Rattle.fill_shared.specs.declared.Filled.the-variants.{Labelled}
-use Rattle.row_entry.specs.declared.Entry.the-variants.{Ends}
-use Rattle.row_entry.specs.Entering.{over, Enterable, Worked, Added, Became}
+use Rattle.row_entry.specs.declared.Appended.the-variants.{Ends}
+use Rattle.row_entry.specs.Entering.{Enterable, Worked, Added, Became}
 use Rattle.entries.proofs.Naturals.{natAbs-up}
 use Rattle.row_entry.proofs.Sounds.{operands-sound, factor-positive, span-limit}
 use Rattle.row_entry.proofs.Admitted.{Admitted, admitted, ready, all-labelled}

@@ -14,15 +14,15 @@ use Rattle.calendar.specs.Limits.{poolLimit, headingLength}
 use Rattle.calendar.specs.Questions.{given}
 use Rattle.calendar.specs.Reply.{Reply}
 use Rattle.calendar.specs.Reply.Reply.{refused, answer}
-use Rattle.calendar.specs.Table.{named}
-use Rattle.entries.specs.declared.Entry as Entries
-use Rattle.entries.specs.Entries.{entryOf}
+use Rattle.calendar.specs.Refusals.{numberOf}
+use Rattle.entries.specs.declared.Named.{Named}
+use Rattle.entries.specs.Naming.{Names}
 use Rattle.kinds.specs.declared.Kind.{Kind}
 use Rattle.kinds.specs.declared.Operand.{Operand}
-use Rattle.kinds.specs.Operations.{operationOf, operands, Numbers, SoundFirst}
+use Rattle.kinds.specs.Operations.{operands, Numbers, SoundFirst}
 use Rattle.kinds.specs.Stands.{end, rowIn}
-use Rattle.row_entry.specs.declared.Entry.{Entry}
-use Rattle.row_entry.specs.declared.Entry.the-variants.{Refused, Ends}
+use Rattle.row_entry.specs.declared.Appended.{Appended}
+use Rattle.row_entry.specs.declared.Appended.the-variants.{Refused, Ends}
 use Rattle.row_entry.specs.Stores.{Stores}
 
 -- the row whose heading is the j-th
@@ -30,14 +30,10 @@ abbrev pub operandOf : List ℕ → ℕ → Operand
 operandOf headings j =
     record { start = getD headings (headingLength * j) 0; period = pos (getD headings (headingLength * j + 1) 0); distance = pos (getD headings (headingLength * j + 2) 0) }
 
--- the operation over rows of the pool
-abbrev pub over : Kind → List ℤ → Operand → Operand → Operation Row
-over kind pool a b = operationOf kind (rowIn pool a) (rowIn pool b)
-
--- an entry that passes checks 4, 5 and 6 is due, and there is a heading for it
-pub record NamedDue (e : Entries.Entry) (k : ℕ) (headings : List ℕ) (pool : List ℤ) (used : ℕ) : Type 0 where
+-- an operation over the rows of earlier entries is due, and there is a heading for it
+pub record NamedDue (n : Named) (k : ℕ) (headings : List ℕ) (pool : List ℤ) (used : ℕ) : Type 0 where
   pub rows : (l : List Row) × (length l ≡ k) × Stores l headings pool used
-  pub passes : (o : Operation ℕ) × (named k (entryOf e) ≡ answer o)
+  pub names : (o : Operation ℕ) × Names k o n
   pub has-heading : headingLength * k + headingLength ≤ length headings
   pub at-most : length pool ≤ poolLimit
 
@@ -70,7 +66,12 @@ pub record Added (k used : ℕ) (numbers : List ℕ) (before : List ℤ) (r : Ro
   pub cells : take (used + r .period) pool ≡ take used before ++ r .cells
   pub ends : e ≡ used + r .period
 
+-- after a refusal the headings are as they were, and so are the first `used` cells; those behind are scratch
+pub record Kept (used : ℕ) (old : List ℕ) (before : List ℤ) (headings : List ℕ) (after : List ℤ) : Type 0 where
+  pub numbers : headings ≡ old
+  pub cells : take used after ≡ take used before
+
 -- what became of an operation with the reply x
-abbrev pub Became : ℕ → ℕ → List ℕ → List ℤ → Reply Row → Entry → List ℕ → List ℤ → Type 0
-Became k used numbers before x (Refused n) headings pool = x ≡ refused n
+abbrev pub Became : ℕ → ℕ → List ℕ → List ℤ → Reply Row → Appended → List ℕ → List ℤ → Type 0
+Became k used numbers before x (Refused n) headings pool = (x ≡ refused (numberOf n)) × Kept used numbers before headings pool
 Became k used numbers before x (Ends e) headings pool = (r : Row) × (x ≡ answer r) × Added k used numbers before r e headings pool

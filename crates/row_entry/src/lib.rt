@@ -2,7 +2,7 @@
 
 ghost use mathlib.Core.Path.{_≡_};
 ghost use mathlib.Core.List.{List, _∷_, _++_};
-ghost use Prim.Native.Nat.{_+_, _-_, _*_, _≤_};
+ghost use Prim.Native.Nat.{ℕ, _+_, _-_, _*_, _≤_};
 ghost use lib.IntN.{pos};
 ghost use lib.Signed.{_≤ℤ_};
 ghost use lib.ListN.{length, take, drop};
@@ -12,14 +12,17 @@ ghost use Rattle.calendar.specs.Limits.{poolLimit, headingLength};
 ghost use Rattle.calendar.specs.Questions.{given};
 ghost use Rattle.calendar.specs.Least.{least};
 ghost use Rattle.calendar.specs.Reply.Reply.{answer};
-ghost use Rattle.calendar.specs.Outcome.{converted, judged};
-ghost use Rattle.entries.specs.Entries.{entryOf};
+ghost use Rattle.calendar.specs.Outcome.{converted, atRows};
+ghost use Rattle.calendar.specs.Operation.{Operation};
+ghost use Rattle.entries.specs.Naming.{Names};
 ghost use Rattle.kinds.specs.Operations.{operands, Numbers, SoundFirst};
-ghost use Rattle.kinds.specs.Stands.{end, rowIn};
-ghost use Rattle.operand_checks.specs.Admission.{admission, checkedOf};
+ghost use Rattle.kinds.specs.Stands.{rowIn};
+ghost use Rattle.fill_shared.specs.Placed.{over};
+ghost use Rattle.operand_checks.specs.Admission.{admission, checkedReply};
 ghost use Rattle.row_entry.specs.Stores.{Stores};
-ghost use Rattle.row_entry.specs.Entering.{operandOf, over, NamedDue, Before, Enterable, Worked, Added, Became};
+ghost use Rattle.row_entry.specs.Entering.{operandOf, NamedDue, Before, Enterable, Worked, Added, Became};
 use calendar::Refusal;
+use entries::Named;
 use fill_shared::Filled;
 use kinds::Kind;
 use kinds::Operand;
@@ -29,9 +32,9 @@ use operand_checks::Extent;
 // How many numbers a heading has: start, period and distance.
 pub const HEADING_LENGTH: usize = 3;
 
-// What entering the row of an entry comes to: a refusal, by its number, or the row ends before that cell.
-pub enum Entry {
-    Refused(u32),
+// What entering the row of an entry comes to: a refusal, or the row ends before that cell.
+pub enum Appended {
+    Refused(Refusal),
     Ends(usize),
 }
 
@@ -46,14 +49,6 @@ fn operand_at(headings: &[u32], j: usize) -> Operand
         period: headings[at + 1] as i64,
         distance: headings[at + 2] as i64,
     }
-}
-
-// The cell behind the last one of the row.
-fn end_of(a: Operand) -> usize
-    requires { ⌜ Before poolLimit a ⌝ }
-    ensures { λ r. ⌜ r ≡ end a ⌝ }
-{
-    a.start + a.period as usize
 }
 
 // A number of a heading.
@@ -83,12 +78,12 @@ fn check_in(kind: Kind, room: i64, pool: &[i32], a: Operand, b: Operand) -> Chec
     requires { ⌜ Before (length (now pool)) b ⌝ }
     requires { ⌜ length (now pool) ≤ poolLimit ⌝ }
     requires { ⌜ (pos 0 ≤ℤ room) × (room ≤ℤ pos poolLimit) ⌝ }
-    ensures { λ r. ⌜ r ≡ checkedOf (admission (over kind (now (pool .entry)) a b) (up room)) ⌝ }
+    ensures { λ r. ⌜ checkedReply r ≡ admission (over kind (now (pool .entry)) a b) (up room) ⌝ }
 {
     let a_start = a.start;
-    let a_end = end_of(a);
+    let a_end = fill_shared::end_of(a, pool.len());
     let b_start = b.start;
-    let b_end = end_of(b);
+    let b_end = fill_shared::end_of(b, pool.len());
     operand_checks::check(
         kind,
         room,
@@ -145,7 +140,7 @@ fn write(
     used: usize,
     headings: &mut [u32],
     pool: &mut [i32],
-) -> Entry
+) -> Appended
     requires { ⌜ Enterable kind a b k used (now headings) (now pool) ⌝ }
     requires { ⌜ admission (over kind (now pool) a b) (length (now pool) - used) ≡ answer extent ⌝ }
     ensures lengths { λ r. ⌜ (length (now (headings .exit)) ≡ length (now (headings .entry))) × (length (now (pool .exit)) ≡ length (now (pool .entry))) ⌝ }
@@ -153,9 +148,9 @@ fn write(
 {
     let filled = fill::fill(kind, extent.span, used, extent.period as usize, pool, a, b);
     match filled {
-        Filled::Unlabelled => Entry::Refused(Refusal::NothingLabelled.number()),
-        Filled::OutOfRange => Entry::Refused(Refusal::LabelOutsideLimits.number()),
-        Filled::Labelled => Entry::Ends(finish(
+        Filled::Unlabelled => Appended::Refused(Refusal::NothingLabelled),
+        Filled::OutOfRange => Appended::Refused(Refusal::LabelOutsideLimits),
+        Filled::Labelled => Appended::Ends(finish(
             extent.period,
             extent.distance,
             k,
@@ -175,7 +170,7 @@ fn enter(
     used: usize,
     headings: &mut [u32],
     pool: &mut [i32],
-) -> Entry
+) -> Appended
     requires { ⌜ Enterable kind a b k used (now headings) (now pool) ⌝ }
     ensures lengths { λ r. ⌜ (length (now (headings .exit)) ≡ length (now (headings .entry))) × (length (now (pool .exit)) ≡ length (now (pool .entry))) ⌝ }
     ensures became { λ r. ⌜ Became k used (now (headings .entry)) (now (pool .entry)) (converted (over kind (now (pool .entry)) a b) (length (now (pool .entry)) - used)) r (now (headings .exit)) (now (pool .exit)) ⌝ }
@@ -183,24 +178,24 @@ fn enter(
     let room = pool.len() - used;
     let checked = check_in(kind, room as i64, pool, a, b);
     match checked {
-        Checked::Refused(n) => Entry::Refused(n),
+        Checked::Refused(n) => Appended::Refused(n),
         Checked::Passed(extent) => write(kind, extent, a, b, k, used, headings, pool),
     }
 }
 
-// Enters the row of an entry that has passed checks 4, 5 and 6.
+// Enters the row of an operation over the rows of earlier entries. After a refusal the headings are as they were, and so are the first `used` cells; those
+// behind are scratch.
 pub fn enter_named(
-    e: entries::Entry,
+    named: Named,
     k: usize,
     used: usize,
     headings: &mut [u32],
     pool: &mut [i32],
-) -> Entry
-    requires { ⌜ NamedDue e k (now headings) (now pool) used ⌝ }
+) -> Appended
+    requires { ⌜ NamedDue named k (now headings) (now pool) used ⌝ }
     ensures lengths { λ r. ⌜ (length (now (headings .exit)) ≡ length (now (headings .entry))) × (length (now (pool .exit)) ≡ length (now (pool .entry))) ⌝ }
-    ensures became { λ r. ⌜ ((l : List Row) → length l ≡ k → Stores l (now (headings .entry)) (now (pool .entry)) used → Became k used (now (headings .entry)) (now (pool .entry)) (judged l (length (now (pool .entry)) - used) (entryOf e)) r (now (headings .exit)) (now (pool .exit))) ⌝ }
+    ensures became { λ r. ⌜ ((l : List Row) (o : Operation ℕ) → length l ≡ k → Stores l (now (headings .entry)) (now (pool .entry)) used → Names k o named → Became k used (now (headings .entry)) (now (pool .entry)) (converted (atRows l o) (length (now (pool .entry)) - used)) r (now (headings .exit)) (now (pool .exit))) ⌝ }
 {
-    let named = naming::names(e);
     let kind = named.kind;
     let first = operand_at(headings, named.first);
     let second = operand_at(headings, named.second);

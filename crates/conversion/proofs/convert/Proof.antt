@@ -8,8 +8,7 @@ use lib.ListN.{length}
 use Rattle.calendar.specs.Limits.{headingLength}
 use Rattle.calendar.specs.Reply.Reply.{answer}
 use Rattle.calendar.specs.Table.{admitted}
-use Rattle.entries.specs.Entries.{begun}
-use Rattle.entries.proofs.Answers.{begun-refused, begun-entries}
+use Rattle.entries.specs.Entries.{begunReply}
 use Rattle.conversion.proofs.Outcomes.{outcome-refused, outcome-entries, admitted-due}
 use Rattle.conversion.proofs.convert.Statement.{statement}
 use Rattle.conversion.proofs.convert.Tie as tie
@@ -37,8 +36,8 @@ clear-headings-requires c κs = search needs
 begin-requires : tie.Need-begin-requires
 begin-requires c κs = search needs
 
-begins : (c : tie.After-begin) → c .begin .result ≡ begun (admitted (start c .args .table .now) (width c / headingLength) (room c))
-begins c = c .begin .ensures ∙ ap (λ (h : ℕ). begun (admitted (start c .args .table .now) (h / headingLength) (room c))) (clearing c .clear-headings .kept .0)
+begins : (c : tie.After-begin) → begunReply (c .begin .result) ≡ admitted (start c .args .table .now) (width c / headingLength) (room c)
+begins c = c .begin .ensures ∙ ap (λ (h : ℕ). admitted (start c .args .table .now) (h / headingLength) (room c)) (clearing c .clear-headings .kept .0)
 
 enum-known-begun : tie.Need-enum-known-begun
 enum-known-begun c = search needs
@@ -55,13 +54,16 @@ same-length c = search needs
 same-length-2 : tie.Need-same-length-2
 same-length-2 c = search needs
 
+number-requires : tie.Need-number-requires
+number-requires c κs = search needs
+
 returns : tie.Need-returns
 returns c =
-    let k = c .before .before .before in
+    let k = c .before .before .before .before in
     let b = k .before .before .before in
-    let x = outcome-refused (start b .args .table .now) (width b) (room b) _ (numbers b) _ (begun-refused (sym (begins b) ∙ k .before .begun .given .1))
-    (record { numbers = clearing b .clear-headings .ensures; cells = c .before .clear-cells .ensures }) in
-    (x .answer, (x .numbers, x .cells))
+    rw (c .number .ensures)
+    (outcome-refused (start b .args .table .now) (width b) (room b) _ (numbers b) _ (sym (begins b) ∙ ap begunReply (k .before .begun .given .1))
+    (record { numbers = clearing b .clear-headings .ensures; cells = c .before .before .clear-cells .ensures }))
 
 -- ---- the entries
 
@@ -72,7 +74,7 @@ abbrev count : tie.After-known-told2 → ℕ
 count c = c .before .begun2 .given .0 .0
 
 passes : (c : tie.After-known-told2) → let b = beginning c in admitted (start b .args .table .now) (width b / headingLength) (room b) ≡ answer (count c)
-passes c = begun-entries (sym (begins (beginning c)) ∙ c .before .begun2 .given .1)
+passes c = sym (begins (beginning c)) ∙ ap begunReply (c .before .begun2 .given .1)
 
 convert-entries-requires : tie.Need-convert-entries-requires
 convert-entries-requires c κs =
@@ -92,8 +94,7 @@ returns-2 c =
     let k = e .before .before .before in
     let b = beginning k in
     let t = start b .args .table .now in
-    let x = outcome-entries t (width b) (room b) (count k) _ _ _ (passes k) (rw (clearing b .clear-headings .kept .0) at (e .convert-entries .ensures)) in
-    (x .answer, (x .numbers, x .cells))
+    outcome-entries t (width b) (room b) (count k) _ _ _ (passes k) (rw (clearing b .clear-headings .kept .0) at (e .convert-entries .ensures))
 
 pub convert-spec : {M : Type 1} → statement M
 convert-spec =
@@ -103,6 +104,7 @@ convert-spec =
     begin-requires
     enum-known-begun
     clear-cells-requires
+    number-requires
     enum-known-begun-2
     convert-entries-requires
     same-length

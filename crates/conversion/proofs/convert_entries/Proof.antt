@@ -7,7 +7,7 @@ use Prim.Native.Nat.{ℕ, _-_}
 use native.Mathlib.Omega.{arith}
 use lib.IntN.{ℤ}
 use lib.ListN.{length}
-use Rattle.row_entry.specs.declared.Entry.{Entry}
+use Rattle.row_entry.specs.declared.Appended.{Appended}
 use Rattle.row_entry.specs.Stores.{Entered}
 use Rattle.conversion.proofs.Clearing.{cleared-as}
 use Rattle.conversion.proofs.Outcomes.{Standing, standing-none, standing-due, standing-ended, standing-refused, standing-more, ended-refused}
@@ -52,7 +52,7 @@ numbers c = c .convert-entry .last .1 .1 .1 .0
 abbrev cells : After-entry → List ℤ
 cells c = c .convert-entry .last .1 .1 .1 .1 .0
 
-abbrev Says : After-entry → Entry → Type 0
+abbrev Says : After-entry → Appended → Type 0
 Says c x =
     let l = at-loop c in
     Entered (begun l .args .table .now) (l .loop .k) (l .loop .inv .before) x (numbers c) (cells c)
@@ -83,25 +83,29 @@ told c = c .before .before .before .before .before .before
 abbrev refusing : tie.After-pool2 Inv-loop μ-loop → After-entry
 refusing c = told c .before .before .before .before .before .before
 
-cast-t20 : tie.Need-cast-t20 Inv-loop μ-loop
-cast-t20 c =
-    let l = at-loop (refusing c) in
+number-requires : tie.Need-number-requires Inv-loop μ-loop
+number-requires c κs = search needs
+
+cast-t21 : tie.Need-cast-t21 Inv-loop μ-loop
+cast-t21 c =
+    let l = at-loop (refusing (c .before)) in
     omega (arith, l .loop .inv .at-most, begun l .pre .at-most)
 
 same-length : tie.Need-same-length Inv-loop μ-loop
-same-length c = c .before .before .before .clear .kept .0 ∙ as-many-numbers (refusing c)
+same-length c = c .before .before .before .before .clear .kept .0 ∙ as-many-numbers (refusing (c .before))
 
 same-length-2 : tie.Need-same-length-2 Inv-loop μ-loop
-same-length-2 c = c .before .before .before .clear .kept .1 .0 ∙ as-many-cells (refusing c)
+same-length-2 c = c .before .before .before .before .clear .kept .1 .0 ∙ as-many-cells (refusing (c .before))
 
 returns : tie.Need-returns Inv-loop μ-loop
 returns c =
-    let a = refusing c in
+    let a = refusing (c .before) in
     let i = a .before .before .before in
-    let e = told c .before .entry .given in
+    let e = told (c .before) .before .entry .given in
+    rw (c .number .ensures) (
     ended-refused _ _ _ _ _ _ _
-    (standing-refused _ _ _ _ _ _ _ _ (i .before .loop .inv) (i .loop-test .taken) (cells a) (a .convert-entry .ensures .0 .1) _ (numbers a) (subst (Says a) (e .1) (says a)))
-    (cleared-as (as-many-numbers a) (as-many-cells a) (c .before .before .before .clear .ensures))
+    (standing-refused _ _ _ _ _ _ _ _ (i .before .loop .inv) (i .loop-test .taken) (cells a) (a .convert-entry .ensures .0 .1) (e .0 .0) (numbers a) (subst (Says a) (e .1) (says a)))
+    (cleared-as (as-many-numbers a) (as-many-cells a) (c .before .before .before .before .clear .ensures)))
 
 -- ---- its row stands in the pool
 
@@ -151,7 +155,8 @@ convert-entries-spec =
     convert-entry-requires
     enum-known-entry
     clear-requires
-    cast-t20
+    number-requires
+    cast-t21
     same-length
     same-length-2
     returns

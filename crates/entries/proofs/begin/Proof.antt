@@ -5,7 +5,6 @@ use mathlib.Core.Logic.{⊎-elim}
 use mathlib.Core.Bool.{Bool, true, false, _&&_}
 use mathlib.Core.List.{List}
 use Prim.Native.Nat.{_/_, _%_}
-use borrow.Author.Needs.{needs}
 use borrow.Author.Tests.{ltb-true, ltb-false, le-leb, lt-leb, eq-eqb, ne-eqb}
 use lib.Dec.{eqb, leb}
 use lib.IntN.{ℤ}
@@ -13,15 +12,6 @@ use lib.ListN.{length}
 use Rattle.calendar.specs.Limits.{entryLimit}
 use Rattle.entries.proofs.begin.Statement.{statement}
 use Rattle.entries.proofs.begin.Tie as tie
-
-number-requires : tie.Need-number-requires
-number-requires c κs = search needs
-
-number-requires-2 : tie.Need-number-requires-2
-number-requires-2 c κs = search needs
-
-number-requires-3 : tie.Need-number-requires-3
-number-requires-3 c κs = search needs
 
 -- check 1
 whole : List ℤ → Bool
@@ -46,17 +36,17 @@ passes c =
 
 returns : tie.Need-returns
 unfolding whole
-returns c = simp (c .number .ensures, fails (c .before))
+returns c = simp (fails c)
 
 returns-2 : tie.Need-returns-2
 unfolding whole
-returns-2 c = simp (c .number2 .ensures, passes (c .before .before), lt-leb _ _ (c .before .if4 .taken))
+returns-2 c = simp (passes (c .before), lt-leb _ _ (c .if4 .taken))
 
 returns-3 : tie.Need-returns-3
 unfolding whole
 returns-3 c =
-    let t = c .before .before in
-    simp (c .number3 .ensures, passes (t .before), le-leb _ _ (t .if4 .left), lt-leb _ _ (c .before .if5 .taken))
+    let t = c .before in
+    simp (passes (t .before), le-leb _ _ (t .if4 .left), lt-leb _ _ (c .if5 .taken))
 
 returns-4 : tie.Need-returns-4
 unfolding whole
@@ -65,13 +55,4 @@ returns-4 c =
     simp (passes (t .before), le-leb _ _ (t .if4 .left), le-leb _ _ (c .if5 .left))
 
 pub begin-spec : {M : Type 1} → statement M
-begin-spec =
-    tie.close
-    (tie.spec
-    number-requires
-    returns
-    number-requires-2
-    returns-2
-    number-requires-3
-    returns-3
-    returns-4)
+begin-spec = tie.close (tie.spec returns returns-2 returns-3 returns-4)

@@ -19,6 +19,7 @@ use Rattle.calendar.specs.Table.{Entry, named}
 use Rattle.granules.proofs.Tests.{and-iff, leZ-iff}
 use Rattle.entries.specs.Entries.{entryOf, kindOf, operandsEarlier, othersZero}
 use Rattle.entries.proofs.Fields.{Fields}
+use Rattle.entries.proofs.Passing as Passing
 use Rattle.entries.proofs.Naturals.{cast-natural, natAbs-up, up-le}
 use Rattle.entries.proofs.read.Statement.{statement}
 use Rattle.entries.proofs.read.Tie as tie
@@ -41,9 +42,6 @@ natural-between z e =
 between-requires : tie.Need-between-requires
 between-requires c κs = search needs
 
-number-requires : tie.Need-number-requires
-number-requires c κs = search needs
-
 fields : (c : tie.Start) → Fields (c .args .e)
 fields c = search needs
 
@@ -59,7 +57,7 @@ known : (c : tie.Else1) → between (pos 0) (pos 12) (c .before .before .before 
 known c = sym (kind-test (c .before)) ∙ not-false _ (c .if1 .left)
 
 returns : tie.Need-returns
-returns c = simp (c .number .ensures, checks, unknown (c .before))
+returns c = simp (checks, unknown c)
 
 -- the kind as a natural
 natural : (c : tie.Else1) → let z = c .before .before .before .args .e .kind in (pos 0 ≤ℤ z) × (natAbs z ≡ up z) × (up z < 13)
@@ -81,9 +79,6 @@ operands-requires c κs =
 operands-earlier-requires : tie.Need-operands-earlier-requires
 operands-earlier-requires c κs = search needs
 
-number-requires-2 : tie.Need-number-requires-2
-number-requires-2 c κs = search needs
-
 count : (c : tie.After-operands) → c .operands .result ≡ kindOf (up (c .before .before .before .before .before .before .args .e .kind)) .operands
 count c =
     let f = fields (c .before .before .before .before .before .before) .kind in
@@ -96,9 +91,9 @@ earlier-test c = rw (← count (c .before)) (c .operands-earlier .ensures)
 
 returns-2 : tie.Need-returns-2
 returns-2 c =
-    let t = c .before .before in
-    let e = sym (earlier-test t) ∙ not-true _ (c .before .if2 .taken) in
-    simp (c .number2 .ensures, checks, known (t .before .before .before .before), e)
+    let t = c .before in
+    let e = sym (earlier-test t) ∙ not-true _ (c .if2 .taken) in
+    simp (checks, known (t .before .before .before .before), e)
 
 -- ---- check 6
 
@@ -107,9 +102,6 @@ others-zero-requires c κs = search needs
 
 numbers-requires : tie.Need-numbers-requires
 numbers-requires c κs = search needs
-
-number-requires-3 : tie.Need-number-requires-3
-number-requires-3 c κs = search needs
 
 -- what checks 4 and 5 leave
 passed : (c : tie.Else2) → let s = c .before .before .before .before .before .before .before .before .args in
@@ -130,34 +122,41 @@ numbers-test c =
     let f = fields (s .before .before .before) .kind in
     simp (plain, natural s .1) at (c .numbers .ensures)
 
-returns-3 : tie.Need-returns-3
-returns-3 c =
+-- ---- what the entry names
+
+answered : (c : tie.Then4) → let s = c .before .before .before .before .before .before .before .before .before .before .before .before .args in
+    named (s .before) (entryOf (s .e)) ≡ answer (kindOf (up (s .e .kind)) .operation (entryOf (s .e)))
+answered c =
     let t = c .before .before in
     simp (passed (t .before .before), ← others-test (t .before), t .if3 .taken, ← numbers-test (c .before), c .if4 .taken)
 
+names-requires : tie.Need-names-requires
+names-requires c κs = let p = Passing.passed _ _ _ (answered c) in (p .first-low, p .second-low)
+
+returns-3 : tie.Need-returns-3
+returns-3 c = let a = answered (c .before) in (_, a, c .names .ensures _ _ a)
+
 returns-4 : tie.Need-returns-4
 returns-4 c =
-    let o = c .before .before in
-    simp (c .number3 .ensures, passed (o .before), ← others-test o)
+    let o = c .before in
+    simp (passed (o .before), ← others-test o)
     (⊎-elim
     (λ w. simp (w .0 .taken, ← numbers-test (record { before = record { before = o; if3 = w .0 }; numbers = w .1 }), w .2 .left))
     (λ w. simp (w .left))
-    (c .before .if3 .came))
+    (c .if3 .came))
 
 pub read-spec : {M : Type 1} → statement M
 read-spec =
     tie.close
     (tie.spec
     between-requires
-    number-requires
     returns
     cast-kind
     operands-requires
     operands-earlier-requires
-    number-requires-2
     returns-2
     others-zero-requires
     numbers-requires
-    number-requires-3
+    names-requires
     returns-3
     returns-4)

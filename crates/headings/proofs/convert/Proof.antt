@@ -4,13 +4,13 @@
 -- Assumes nothing.
 use Rattle.calendar.specs.Limits.{entryLimit, headingLength}
 use Rattle.hand_proofs.proofs.Logic.{_≡_, refl, ap, _∙_, [], _∷_, List, ℤ, length, URA, fullShare, Ty, named, Val, SProp, ent, emp, via, fst∗, id⊢, Lft, Share, Fml, ftrue, fat, flft, Memory, Routine, Heap, WpFn, Tables, Atoms, Fun, givenOf, tables, tablesOf, Given, ‵, _⊛_, ⋆, _$_, _∵_, !, qed, by, move, keep, use1, split, join, rewrite, fsplit, fjoin, feqL, suffices, frame, done, look, init, stop, from, of-opd, and-then, no-more, land, returns, enter, alloc1, alloc0, params1, pass1, pass0, free0, agg, fmOf, owns, Is, nothing-lawful, i32, RefT, sliceVal, MutSlice, ShrSlice, Room, finally, slice-vals, mut-slice-tells, shr-slice-tells, shr-slice-copy, plain, only, owned, nothing, onEntry, Meets, tripleOf, entered, cited, says, Stays, stay-none-slice, gave-slice, walkOf, goes-none-slice, goes-gave-slice, ends-at, yes, usize, uint-makes, w64, vint, drop}
-use Prim.Native.Nat.{ℕ}
+use Prim.Native.Nat.{ℕ, _*_}
 use denote.Struct.Laws as LL
 use denote.Enum.Laws as EL
 use Rattle.calendar.specs.Outcome.{Outcome, outcome}
 use Rattle.calendar.specs.Stored.{headingsAfter, poolAfter}
 use Rattle.conversion.specs.Answers.{answered}
-use Rattle.headings.specs.Records.{recordsOf, recordsAfter}
+use Rattle.headings.specs.LeftRecords.{recordsOf, LeftRecords}
 use Rattle.headings.specs.declared.Heading.{Heading}
 use Rattle.headings.specs.declared.Made.{Made}
 use Rattle.hand_proofs.proofs.Calls.{calls-fn, proves}
@@ -74,7 +74,7 @@ module _ {M : Type 1} (𝓤 : URA M) (H : Heap 𝓤) (A : Atoms 𝓤) (W : Given
   abbrev o : Outcome
   o = outcome (t .now) n (length (p .now))
 
-  exits : (m : Made) → Is N.the-row (m .answer) (N-vals m) → (zs : List Heading) (ps : List ℤ) → (m .answer ≡ answered o) × (zs ≡ recordsAfter n o) × (ps ≡ poolAfter (length (p .now)) o)
+  exits : (m : Made) → Is N.the-row (m .answer) (N-vals m) → (zs : List Heading) (ps : List ℤ) → LeftRecords (t .now) n (length (p .now)) (m .answer) zs ps
       → length zs ≡ length (hs .now) → length ps ≡ length (p .now)
       → ent 𝓤 (⋆ 𝓤 H A ((‵ (flft κ₁ q₁) ⊛ (‵ (flft κ₃ q₃) ⊛ ‵ ftrue)) ∷ (‵ (flft κ₂ q₂) ⊛ ‵ ftrue) ∷ ‵ Own ∷ ‵ (finally T.the-row (hs .name) zs) ∷ ‵ (finally i32 (p .name) ps) ∷ [])) (Post (only (N-vals m)))
   exits m is zs ps e l l′ =
@@ -120,7 +120,7 @@ module _ {M : Type 1} (𝓤 : URA M) (H : Heap 𝓤) (A : Atoms 𝓤) (W : Given
         move ! (1 ∷ []) $ fsplit ! $ fsplit ! $ move ! (1 ∷ []) $ feqL ! (λ l.
         -- [the last records; …; the unit; hs's token; the last pool; …; the tokens; what t owns; _10; …]
         returns ! (look ! 28 refl) $ dies ! 28 refl refl $ dies ! 26 refl refl $ dies ! 24 refl refl $ dies ! 22 refl refl $ dies ! 20 refl refl $ dies ! 18 refl refl $ dies ! 16 refl refl $ dies ! 14 refl refl $ dies ! 12 refl refl $ dies ! 10 refl refl $ dies ! 8 refl refl $ free0 ! $
-        keep ! (6 ∷ 3 ∷ 7 ∷ 0 ∷ 4 ∷ []) $ by ! (exits m (is-answer m u is) (vs .0) (ws .1 .1 .0) (e .0, e′ ∙ ap (λ (x : List ℕ). recordsOf x n) (e .1) ∙ outcome-records (t .now) n (length (p .now)), e .2) l l′))))))))))))))))
+        keep ! (6 ∷ 3 ∷ 7 ∷ 0 ∷ 4 ∷ []) $ by ! (exits m (is-answer m u is) (vs .0) (ws .1 .1 .0) (record { answer = e .0; records = e′ ∙ ap (λ (x : List ℕ). recordsOf x n) (e .1) ∙ outcome-records (t .now) n (length (p .now)); cells = e .2 }) l l′))))))))))))))))
 
 convert-meets : {M : Type 1} (𝓤 : URA M) (H : Heap 𝓤) (A : Atoms 𝓤) → Given 𝓤 H A → (mem : Memory → SProp 𝓤) (run : Routine → Fun 𝓤) (𝓣 : Tables 𝓤 H) → Meets 𝓤 H A g.signature (𝓣 .C #headings·convert-made) (g.spec 𝓤 H A mem run) → Meets 𝓤 H A w.signature (𝓣 .C #headings·write-all) (w.spec 𝓤 H A mem run)
     → Meets 𝓤 H A f.signature (WpFn 𝓤 H (𝓣 .C) (𝓣 .Λ) code.function) (f.spec 𝓤 H A mem run)

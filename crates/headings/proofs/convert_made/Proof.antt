@@ -14,6 +14,7 @@ use Rattle.calendar.specs.Outcome.{outcome}
 use Rattle.calendar.specs.Stored.{headingsAfter, poolAfter}
 use Rattle.conversion.specs.declared.Conversion.{Conversion}
 use Rattle.conversion.specs.Answers.{answered}
+use Rattle.conversion.specs.Left.{Left}
 use Rattle.headings.proofs.Plain.{Asked, asked-all, asked-most, outcome-numbers}
 use Rattle.headings.proofs.convert_made.Statement.{statement}
 use Rattle.headings.proofs.convert_made.Tie as tie
@@ -31,15 +32,15 @@ lent m h = length-take-le (headingLength * m) plain (omega arith)
 
 -- what the callee ensures, read at all numbers
 made : (t : List ℤ) (n m p : ℕ) → Asked n m → (k : ℕ) → k ≡ headingLength * m → (r : Conversion) (numbers : List ℕ) (pool : List ℤ)
-    → (r ≡ answered (outcome t (k / headingLength) p)) × (numbers ≡ headingsAfter k (outcome t (k / headingLength) p)) × (pool ≡ poolAfter p (outcome t (k / headingLength) p))
+    → Left t k p r numbers pool
     → (r ≡ answered (outcome t n p)) × (numbers ++ drop (headingLength * m) plain ≡ headingsAfter (headingLength * entryLimit) (outcome t n p)) × (pool ≡ poolAfter p (outcome t n p))
 made t n m p a k e r numbers pool h =
     let q : k / headingLength ≡ m = omega arith in
     let o : outcome t (k / headingLength) p ≡ outcome t n p = ap (λ (i : ℕ). outcome t i p) q ∙ a .alike t p in
     let all = outcome-numbers t m p (a .few) in (
-      h .0 ∙ ap answered o,
-      ap (λ (x : List ℕ). x ++ drop (headingLength * m) plain) (h .1 ∙ ap₂ (λ (i : ℕ) (j : ℕ). headingsAfter i (outcome t j p)) e q) ∙ all ∙ ap (headingsAfter (headingLength * entryLimit)) (a .alike t p),
-      h .2 ∙ ap (poolAfter p) o,
+      h .answer ∙ ap answered o,
+      ap (λ (x : List ℕ). x ++ drop (headingLength * m) plain) (h .numbers ∙ ap₂ (λ (i : ℕ) (j : ℕ). headingsAfter i (outcome t j p)) e q) ∙ all ∙ ap (headingsAfter (headingLength * entryLimit)) (a .alike t p),
+      h .cells ∙ ap (poolAfter p) o,
     )
 
 mul-plain : tie.Need-mul-plain
@@ -64,7 +65,7 @@ returns c =
     let x = k .before .before .args in
     made (x .table .now) (x .lent) (k .before .if1 .entries) (length (x .pool .now)) (asked k) _ (lent _ (asked k .few))
     (b .convert .result) (b .convert .last .1 .0) (b .convert .last .1 .1 .0)
-    (b .convert .ensures .0, b .convert .ensures .1 .0, b .convert .ensures .1 .1)
+    (b .convert .ensures)
 
 pub convert-made-spec : {M : Type 1} → statement M
 convert-made-spec =

@@ -3,7 +3,7 @@
 use borrow.Author.Needs.{needs}
 use mathlib.Core.Path.{_≡_, sym, _∙_}
 use mathlib.Core.List.{List}
-use Prim.Native.Nat.{ℕ, _≤_}
+use Prim.Native.Nat.{ℕ, _≤_, _*_}
 use native.Mathlib.Omega.{arith}
 use lib.ListN.{length, length-map, List·getD-eq-default}
 use mir.Val.{Val}
@@ -11,7 +11,8 @@ use denote.Laws.{Is}
 use denote.Struct.Laws as LL
 use Rattle.calendar.specs.Limits.{entryLimit, headingLength}
 use Rattle.headings.specs.declared.Made.{Made}
-use Rattle.headings.specs.Records.{noHeading, recordAt}
+use Rattle.headings.specs.Records.{noHeading}
+use Rattle.headings.specs.LeftRecords.{recordAt}
 use Rattle.headings.proofs.Made as D
 use Rattle.headings.proofs.Made.Laws as D′
 use Rattle.headings.proofs.Plain.{record-ext}

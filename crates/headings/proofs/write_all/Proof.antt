@@ -5,7 +5,7 @@
 use Rattle.hand_proofs.proofs.Logic.{_≡_, refl, sym, ap, subst, _∙_, le-antisymm, lt-of-le-of-lt, add-one, add-one-dec, arith, [], _∷_, List, Holds, ltb, ltb→lt, nltb→le, lit<, length, set, URA, fullShare, Ty, named, w64, Val, WT, hasTy, vunit, vint, vptr, SProp, ent, emp, via, fst∗, id⊢, Lft, Share, GName, ftrue, fat, froom, fdies, flft, fobs, fauth, fbor, fobor, Memory, Routine, Heap, Out, Env, afterSeq, afterBlock, afterTurn, Wp, atReturn, WpFn, Tables, Atoms, Fun, givenOf, tables, tablesOf, Given, Item, ‵, runs, anyQ, atRet, Sq, _⊛_, ⋆, _$_, _∵_, !, qed, by, move, keep, drop, use2, split, join, rewrite, fsplit, fjoin, feqI, suffices, frame, done, look, init, store, store-raw, forget, stop, hop, from, lit, unit-lit, of-opd, bin, and-then, no-more, assigns, assigns-last, land, first, skips, jumps, blocks, branches, returns, enter, alloc1, alloc0, params1, pass1, pass0, free0, exec, Below, again, loops, fmOf, owns, Is, shows, uint-makes, usize, RefT, sliceVal, MutSlice, Room, heres, codedHoleys, slice-vals, mut-slice-tells, Held, row, place-is, elem-out, elem-put, opens-slice, closes-slice, plain, only, nothing, onEntry, Meets, tripleOf, entered, cited, says, Stays, stay-slice, stay-none, walkOf, goes-slice, goes-none, ends-at, yes}
 use Prim.Native.Nat.{ℕ, _<_, _^_, _*_, zero-le}
 use denote.Struct.Laws as LL
-use Rattle.headings.specs.Records.{recordAt}
+use Rattle.headings.specs.LeftRecords.{recordAt}
 use Rattle.headings.specs.declared.Heading.{Heading}
 use Rattle.headings.specs.declared.Made.{Made}
 use Rattle.hand_proofs.proofs.Written.{wrote, length-wrote, wrote-all, Upto, Nearer, nearer-wf, next, at-list, slice-in}

@@ -12,11 +12,12 @@ use Rattle.integers.proofs.Machine.{plain}
 use Rattle.calendar.specs.Meaning.{Row}
 use Rattle.calendar.specs.Granules.{granules}
 use Rattle.calendar.specs.Questions.{given}
+use Rattle.calendar.specs.Reply.{Reply}
 use Rattle.cursors.proofs.Numbers.{numbers}
 use Rattle.kinds.specs.declared.Kind.{Kind}
 use Rattle.kinds.specs.Operations.{operationOf, operands, Numbers, SoundFirst}
-use Rattle.operand_checks.specs.declared.Checked.{Checked}
-use Rattle.operand_checks.specs.Admission.{admission, checkedOf}
+use Rattle.operand_checks.specs.declared.Extent.{Extent}
+use Rattle.operand_checks.specs.Admission.{admission}
 use Rattle.operand_checks.specs.Shared.{wholeTurn, fitted}
 use Rattle.operand_checks.proofs.Replies.{bottom-is, shift-is, renumber-is, combine-is, select-is, by-labels-is}
 use Rattle.operand_checks.proofs.check.Statement.{statement}
@@ -30,8 +31,8 @@ abbrev row-b : tie.Start → Row
 row-b s = given (s .args .b-period) (s .args .b-distance) (s .args .b-cells .now)
 
 -- what is to be answered, and what is known of the operands, by the kind
-abbrev answered : tie.Start → Kind → Checked
-answered s k = checkedOf (admission (operationOf k (row-a s) (row-b s)) (up (s .args .room)))
+abbrev answered : tie.Start → Kind → Reply Extent
+answered s k = admission (operationOf k (row-a s) (row-b s)) (up (s .args .room))
 
 sounds : (s : tie.Start) {k : Kind} → s .args .kind ≡ k → SoundFirst (operands k) (row-a s) (row-b s)
 sounds s e = subst (λ (k : Kind). SoundFirst (operands k) (row-a s) (row-b s)) e (s .pre .1 .0)
@@ -155,7 +156,7 @@ returns : tie.Need-returns
 returns c =
     let s = c .before .before .before in
     let r = s .fits .room in
-    simp plain at (c .whole .ensures) ∙ ap checkedOf (sym (bottom-is (up (s .args .room)))) ∙ ap (answered s) (sym (c .before .enum-told .given .1))
+    simp plain at (c .whole .ensures) ∙ sym (bottom-is (up (s .args .room))) ∙ ap (answered s) (sym (c .before .enum-told .given .1))
 
 returns-2 : tie.Need-returns-2
 returns-2 c =
@@ -175,8 +176,8 @@ returns-3 c =
     let p = s .fits .a-period in
     let n = s .fits .a-distance in
     simp plain at (c .whole2 .ensures)
-    ∙ ap₂ (λ (p n : ℤ). checkedOf (fitted (wholeTurn p n) (up (s .args .room)))) (l .period-is) (l .distance-is)
-    ∙ ap checkedOf (sym (shift-is _ (row-a s) (up (s .args .room))))
+    ∙ ap₂ (λ (p n : ℤ). fitted (wholeTurn p n) (up (s .args .room))) (l .period-is) (l .distance-is)
+    ∙ sym (shift-is _ (row-a s) (up (s .args .room)))
     ∙ ap (answered s) (sym e)
 
 returns-4 : tie.Need-returns-4
@@ -191,8 +192,8 @@ returns-4 c =
     let n = s .fits .a-distance in
     let h : g .granules .result ≡ pos (granules (row-a s)) = simp plain at (g .granules .ensures) in
     simp plain at (c .whole3 .ensures)
-    ∙ ap₂ (λ (p n : ℤ). checkedOf (fitted (wholeTurn p n) (up (s .args .room)))) (l .period-is) h
-    ∙ ap checkedOf (sym (renumber-is _ (row-a s) (up (s .args .room))))
+    ∙ ap₂ (λ (p n : ℤ). fitted (wholeTurn p n) (up (s .args .room))) (l .period-is) h
+    ∙ sym (renumber-is _ (row-a s) (up (s .args .room)))
     ∙ ap (answered s) (sym e)
 
 returns-5 : tie.Need-returns-5
@@ -213,7 +214,7 @@ returns-6 c =
     let n = s .fits .a-distance in
     let q = s .fits .b-period in
     let m = s .fits .b-distance in
-    simp plain at (c .spanned .ensures) ∙ ap checkedOf (sym (combine-is (row-a s) (row-b s) (up (s .args .room)))) ∙ ap (answered s) (sym (c .before .enum-told4 .given .1))
+    simp plain at (c .spanned .ensures) ∙ sym (combine-is (row-a s) (row-b s) (up (s .args .room))) ∙ ap (answered s) (sym (c .before .enum-told4 .given .1))
 
 returns-7 : tie.Need-returns-7
 returns-7 c =
@@ -223,7 +224,7 @@ returns-7 c =
     let n = s .fits .a-distance in
     let q = s .fits .b-period in
     let m = s .fits .b-distance in
-    simp plain at (c .spanned2 .ensures) ∙ ap checkedOf (sym (select-is (row-a s) (row-b s) (up (s .args .room)) _)) ∙ ap (answered s) (sym (c .before .enum-told5 .given .1))
+    simp plain at (c .spanned2 .ensures) ∙ sym (select-is (row-a s) (row-b s) (up (s .args .room)) _) ∙ ap (answered s) (sym (c .before .enum-told5 .given .1))
 
 returns-8 : tie.Need-returns-8
 returns-8 c =
@@ -243,7 +244,7 @@ returns-9 c =
     let n = s .fits .a-distance in
     let q = s .fits .b-period in
     let m = s .fits .b-distance in
-    simp plain at (c .spanned3 .ensures) ∙ ap checkedOf (sym (by-labels-is (row-a s) (row-b s) (up (s .args .room)) _)) ∙ ap (answered s) (sym (c .before .enum-told7 .given .1))
+    simp plain at (c .spanned3 .ensures) ∙ sym (by-labels-is (row-a s) (row-b s) (up (s .args .room)) _) ∙ ap (answered s) (sym (c .before .enum-told7 .given .1))
 
 pub check-spec : {M : Type 1} → statement M
 check-spec =

@@ -1,15 +1,15 @@
 -- `row_entry::enter` meets its contract: a refusal of the checks is that of the operation, and what has passed them is written.
 -- Assumes nothing.
-use mathlib.Core.Path.{_≡_}
+use mathlib.Core.Path.{_≡_, refl, sym, _∙_, ap}
 use Prim.Native.Nat.{_-_, _^_, _<_}
 use borrow.Author.Needs.{needs}
 use native.Mathlib.Omega.{arith}
 use lib.ListN.{length}
 use Rattle.integers.proofs.Machine.{plain}
-use Rattle.operand_checks.specs.Admission.{admission, checkedOf}
-use Rattle.row_entry.specs.Entering.{over}
+use Rattle.operand_checks.specs.Admission.{admission, checkedReply}
+use Rattle.fill_shared.specs.Placed.{over}
 use Rattle.row_entry.proofs.Numbers.{number-limits}
-use Rattle.row_entry.proofs.Admitted.{refused-before, checked-refused, checked-passed}
+use Rattle.row_entry.proofs.Admitted.{refused-before}
 use Rattle.row_entry.proofs.enter.Statement.{statement}
 use Rattle.row_entry.proofs.enter.Tie as tie
 
@@ -35,7 +35,7 @@ check-in-requires c κs =
 
 -- what the checks come to
 checks : (c : tie.After-check-in) → let a = c .before .before .before .args in
-    c .check-in .result ≡ checkedOf (admission (over (a .kind) (a .pool .now) (a .a) (a .b)) (length (a .pool .now) - a .used))
+    checkedReply (c .check-in .result) ≡ admission (over (a .kind) (a .pool .now) (a .a) (a .b)) (length (a .pool .now) - a .used)
 checks c =
     let s = c .before .before .before in
     let u : length (s .args .pool .now) - s .args .used < 2 ^ 63 = omega (arith, s .pre .at-most) in
@@ -51,15 +51,17 @@ write-requires : tie.Need-write-requires
 write-requires c κs =
     let p = c .before .before .before in
     let k = p .before .before in
-    (k .before .before .before .pre, checked-passed _ (k .check-in .result) (p .checked2 .given .0 .0) (checks k) (p .checked2 .given .1))
+    (k .before .before .before .pre, sym (checks k) ∙ ap checkedReply (p .checked2 .given .1))
 
 same-length : tie.Need-same-length
 same-length c = search needs
 
 returns : tie.Need-returns
 returns c =
-    let k = c .before .before .before in
-    ((search needs, search needs), refused-before _ _ _ (checked-refused _ (k .check-in .result) _ (checks k) (c .before .checked .given .1)))
+    let k = c .before .before .before in (
+      (search needs, search needs),
+      (refused-before _ _ _ (sym (checks k) ∙ ap checkedReply (c .before .checked .given .1)), record { numbers = refl; cells = refl }),
+    )
 
 same-length-2 : tie.Need-same-length-2
 same-length-2 c = search needs

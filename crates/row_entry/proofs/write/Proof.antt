@@ -1,9 +1,8 @@
 -- `row_entry::write` meets its contract: what the working row's labels are decides, by checks 12 and 11; where they pass, its least row is entered.
 -- Assumes nothing.
-use mathlib.Core.Path.{sym, _∙_, ap}
+use mathlib.Core.Path.{refl}
 use borrow.Author.Needs.{needs}
 use Rattle.integers.proofs.Machine.{plain}
-use Rattle.calendar.specs.Reply.Reply.{refused}
 use Rattle.row_entry.proofs.Numbers.{cast-wide}
 use Rattle.row_entry.proofs.Admitted.{none-labelled, out-of-range}
 use Rattle.row_entry.proofs.Writing.{ExtentFits, passed, period-low, is-given, placed, is-worked, became}
@@ -31,14 +30,8 @@ fill-requires c κs =
 enum-told : tie.Need-enum-told
 enum-told c = search needs
 
-number-requires : tie.Need-number-requires
-number-requires c κs = search needs
-
 enum-told-2 : tie.Need-enum-told-2
 enum-told-2 c = search needs
-
-number-requires-2 : tie.Need-number-requires-2
-number-requires-2 c κs = search needs
 
 enum-told-3 : tie.Need-enum-told-3
 enum-told-3 c = search needs
@@ -61,12 +54,15 @@ same-length c = search needs
 
 returns : tie.Need-returns
 returns c =
-    let l = c .before .before .before .before in
+    let l = c .before .before .before in
     let s = l .before .before .before .before .before .before in
     let a = s .args in (
       (search needs, l .fill .ensures .lengths),
-      none-labelled _ _ _ (passed (a .kind) (a .extent) (a .a) (a .b) (a .k) (a .used) (a .headings .now) (a .pool .now) (s .pre .0) (s .pre .1) (fits s))
-          _ (l .fill .ensures .answer) (c .before .enum-told .given .1) ∙ ap refused (sym (c .number .ensures)),
+      (
+        none-labelled _ _ _ (passed (a .kind) (a .extent) (a .a) (a .b) (a .k) (a .used) (a .headings .now) (a .pool .now) (s .pre .0) (s .pre .1) (fits s))
+            _ (l .fill .ensures .answer) (c .enum-told .given .1),
+        record { numbers = refl; cells = l .fill .ensures .before },
+      ),
     )
 
 same-length-2 : tie.Need-same-length-2
@@ -74,12 +70,15 @@ same-length-2 c = search needs
 
 returns-2 : tie.Need-returns-2
 returns-2 c =
-    let l = c .before .before .before .before in
+    let l = c .before .before .before in
     let s = l .before .before .before .before .before .before in
     let a = s .args in (
       (search needs, l .fill .ensures .lengths),
-      out-of-range _ _ _ (passed (a .kind) (a .extent) (a .a) (a .b) (a .k) (a .used) (a .headings .now) (a .pool .now) (s .pre .0) (s .pre .1) (fits s))
-          _ (l .fill .ensures .answer) (c .before .enum-told2 .given .1) ∙ ap refused (sym (c .number2 .ensures)),
+      (
+        out-of-range _ _ _ (passed (a .kind) (a .extent) (a .a) (a .b) (a .k) (a .used) (a .headings .now) (a .pool .now) (s .pre .0) (s .pre .1) (fits s))
+            _ (l .fill .ensures .answer) (c .enum-told2 .given .1),
+        record { numbers = refl; cells = l .fill .ensures .before },
+      ),
     )
 
 same-length-3 : tie.Need-same-length-3
@@ -110,9 +109,7 @@ write-spec =
     cast-fill
     fill-requires
     enum-told
-    number-requires
     enum-told-2
-    number-requires-2
     enum-told-3
     finish-requires
     same-length

@@ -19,8 +19,6 @@ use Rattle.cursors.proofs.Numbers.{valid}
 use Rattle.alignment.proofs.Rising.{limited}
 use Rattle.alter_granules.specs.Given.{altering}
 use Rattle.operand_checks.specs.declared.Extent.{Extent}
-use Rattle.operand_checks.specs.declared.Checked.the-variants.{Refused}
-use Rattle.operand_checks.specs.Admission.{checkedOf}
 use Rattle.operand_checks.specs.Shared.{fitted, alterExtent, behindSpan}
 use Rattle.operand_checks.proofs.Naturals.{up-mono}
 use Rattle.operand_checks.proofs.Kept.{known, fine-positive, fine-at-least}
@@ -30,9 +28,6 @@ use Rattle.operand_checks.proofs.altered.aligned.Tie as tie
 
 partitions-requires : tie.Need-partitions-requires
 partitions-requires c κs = search needs
-
-number-requires : tie.Need-number-requires
-number-requires c κs = search needs
 
 abbrev row-a : tie.Start → Row
 row-a s = given (s .args .a-period) (s .args .a-distance) (s .args .a-cells .now)
@@ -71,8 +66,8 @@ partitions-is c =
 
 returns : tie.Need-returns
 returns c =
-    let t = c .before .before in
-    ap Refused (c .number .ensures) ∙ sym (ap checkedOf (behind (t .before) ∙ failed 9 _ (sym (partitions-is t) ∙ not-true _ (c .before .if1 .taken))))
+    let t = c .before in
+    sym (behind (t .before) ∙ failed 9 _ (sym (partitions-is t) ∙ not-true _ (c .if1 .taken)))
 
 valids : (s : tie.Start) → Valid (row-a s) × Valid (row-b s)
 valids s =
@@ -111,15 +106,11 @@ emptied-is c =
     let m = s .fits .b-distance in
     simp plain at (c .emptied .ensures)
 
-number-requires-2 : tie.Need-number-requires-2
-number-requires-2 c κs = search needs
-
 returns-2 : tie.Need-returns-2
 returns-2 c =
-    let t = c .before .before in
+    let t = c .before in
     let s = t .before .before .before in
-    ap Refused (c .number2 .ensures)
-    ∙ sym (ap checkedOf (behind s ∙ passed 9 _ (partition-holds (t .before)) ∙ failed 10 _ (ap not (sym (emptied-is t) ∙ c .before .if2 .taken))))
+    sym (behind s ∙ passed 9 _ (partition-holds (t .before)) ∙ failed 10 _ (ap not (sym (emptied-is t) ∙ c .if2 .taken)))
 
 kept : (c : tie.Else2) → empties (c .before .before .before .before) ≡ false
 kept c = sym (emptied-is (c .before)) ∙ c .if2 .left
@@ -155,17 +146,15 @@ returns-3 c =
     let q = s .fits .b-period in
     let m = s .fits .b-distance in
     simp plain at (c .sized .ensures)
-    ∙ sym (ap checkedOf (behind s ∙ passed 9 _ (partition-holds (k .before .before)) ∙ passed 10 _ (ap not (kept k))))
+    ∙ sym (behind s ∙ passed 9 _ (partition-holds (k .before .before)) ∙ passed 10 _ (ap not (kept k)))
 
 pub aligned-spec : {M : Type 1} → statement M
 aligned-spec =
     tie.close
     (tie.spec
     partitions-requires
-    number-requires
     returns
     emptied-requires
-    number-requires-2
     returns-2
     sized-requires
     returns-3)

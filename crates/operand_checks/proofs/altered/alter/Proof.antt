@@ -17,8 +17,7 @@ use Rattle.calendar.specs.Questions.{given}
 use Rattle.calendar.specs.Reply.{require}
 use Rattle.alignment.proofs.Rising.{limited}
 use Rattle.alter_granules.specs.Given.{altering}
-use Rattle.operand_checks.specs.declared.Checked.the-variants.{Refused}
-use Rattle.operand_checks.specs.Admission.{admission, checkedOf}
+use Rattle.operand_checks.specs.Admission.{admission}
 use Rattle.operand_checks.specs.Shared.{behindSpan}
 use Rattle.operand_checks.proofs.Spans.{capped-past, capped-passes, capped-half, capped-fits, capped-spanned}
 use Rattle.operand_checks.proofs.Replies.{passed, failed, alter-is}
@@ -27,9 +26,6 @@ use Rattle.operand_checks.proofs.altered.alter.Tie as tie
 
 is-full-requires : tie.Need-is-full-requires
 is-full-requires c κs = search needs
-
-number-requires : tie.Need-number-requires
-number-requires c κs = search needs
 
 abbrev row-a : tie.Start → Row
 row-a s = given (s .args .a-period) (s .args .a-distance) (s .args .a-cells .now)
@@ -52,10 +48,9 @@ full-is c =
 
 returns : tie.Need-returns
 returns c =
-    let t = c .before .before in
+    let t = c .before in
     let s = t .before in
-    ap Refused (c .number .ensures)
-    ∙ sym (ap checkedOf (checks s ∙ failed 7 _ (ap (λ (b : Bool). b && full (row-b s)) (sym (full-is t) ∙ not-true _ (c .before .if1 .taken)))))
+    sym (checks s ∙ failed 7 _ (ap (λ (b : Bool). b && full (row-b s)) (sym (full-is t) ∙ not-true _ (c .if1 .taken))))
 
 first-full : (c : tie.Else1) → full (row-a (c .before .before)) ≡ true
 first-full c = sym (full-is (c .before)) ∙ not-false _ (c .if1 .left)
@@ -70,16 +65,12 @@ full-is-2 c =
 is-full-requires-2 : tie.Need-is-full-requires-2
 is-full-requires-2 c κs = search needs
 
-number-requires-2 : tie.Need-number-requires-2
-number-requires-2 c κs = search needs
-
 returns-2 : tie.Need-returns-2
 returns-2 c =
-    let t = c .before .before in
+    let t = c .before in
     let s = t .before .before .before in
-    let e = sym (full-is-2 t) ∙ not-true _ (c .before .if2 .taken) in
-    ap Refused (c .number2 .ensures)
-    ∙ sym (ap checkedOf (checks s ∙ failed 7 _ (ap₂ (λ (a b : Bool). a && b) (first-full (t .before)) e)))
+    let e = sym (full-is-2 t) ∙ not-true _ (c .if2 .taken) in
+    sym (checks s ∙ failed 7 _ (ap₂ (λ (a b : Bool). a && b) (first-full (t .before)) e))
 
 second-full : (c : tie.Else2) → full (row-b (c .before .before .before .before)) ≡ true
 second-full c = sym (full-is-2 (c .before)) ∙ not-false _ (c .if2 .left)
@@ -113,15 +104,11 @@ enum-known-capped c = search needs
 enum-told : tie.Need-enum-told
 enum-told c = search needs
 
-number-requires-3 : tie.Need-number-requires-3
-number-requires-3 c κs = search needs
-
 returns-3 : tie.Need-returns-3
 returns-3 c =
-    let t = c .before .before .before in
+    let t = c .before .before in
     let s = t .before .before .before .before .before in
-    ap Refused (c .number3 .ensures)
-    ∙ sym (ap checkedOf (checks s ∙ passed 7 _ (both-full (t .before)) ∙ failed 8 _ (capped-past _ _ (sym (capped-is t) ∙ c .before .enum-told .given .1))))
+    sym (checks s ∙ passed 7 _ (both-full (t .before)) ∙ failed 8 _ (capped-past _ _ (sym (capped-is t) ∙ c .enum-told .given .1)))
 
 within : (c : tie.After-known-told) → let s = c .before .before .before .before .before .before .before .before in
     cappedAt (up (s .args .room)) (span s) ≡ Within (c .before .capped .given .0 .0)
@@ -162,22 +149,19 @@ returns-4 c =
     let q = s .fits .b-period in
     let m = s .fits .b-distance in
     simp plain at (c .aligned .ensures)
-    ∙ sym (ap checkedOf (checks s ∙ passed 7 _ (both-full e) ∙ passed 8 _ (capped-passes _ _ (within k))))
+    ∙ sym (checks s ∙ passed 7 _ (both-full e) ∙ passed 8 _ (capped-passes _ _ (within k)))
 
 pub alter-spec : {M : Type 1} → statement M
 alter-spec =
     tie.close
     (tie.spec
     is-full-requires
-    number-requires
     returns
     is-full-requires-2
-    number-requires-2
     returns-2
     span-of-requires
     enum-known-capped
     enum-told
-    number-requires-3
     returns-3
     cast-aligned
     aligned-requires

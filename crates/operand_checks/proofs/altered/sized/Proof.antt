@@ -19,8 +19,7 @@ use Rattle.calendar.specs.Size as Size
 use Rattle.sizes.specs.Stored.{turnOf, Stored}
 use Rattle.sizes.specs.Altered.{alterPeriod, alterDistance}
 use Rattle.sizes.proofs.Altered.{alter-turn-is}
-use Rattle.operand_checks.specs.declared.Checked.the-variants.{Refused, Passed}
-use Rattle.operand_checks.specs.Admission.{checkedOf}
+use Rattle.calendar.specs.Reply.Reply.{answer}
 use Rattle.operand_checks.specs.Shared.{turnFor}
 use Rattle.operand_checks.proofs.Naturals.{Natural, natural, up-mono, stored}
 use Rattle.operand_checks.proofs.Alters.{x-fits, z-fits, alterable, fine-fits, distance-short}
@@ -135,13 +134,10 @@ enum-known-working c = search needs
 enum-told : tie.Need-enum-told
 enum-told c = search needs
 
-number-requires : tie.Need-number-requires
-number-requires c κs = search needs
-
 returns : tie.Need-returns
 returns c =
-    let t = c .before .before .before in
-    ap Refused (c .number .ensures) ∙ sym (ap checkedOf (failed 8 _ (capped-past _ _ (sym (period-is t) ∙ c .before .enum-told .given .1))))
+    let t = c .before .before in
+    sym (failed 8 _ (capped-past _ _ (sym (period-is t) ∙ c .enum-told .given .1)))
 
 within : (c : tie.After-known-told) → let s = c .before .before .before .before .before .before .before .before .before .before .before in
     cappedAt (up (s .args .room)) (working s .period) ≡ Within (c .before .working .given .0 .0)
@@ -171,13 +167,13 @@ distance-below c =
     let l = distance-short (fine-row s) (coarse s) (fine s) (up-mono (d .0)) (r .positive) (r .distance-at-most) (up-mono (d .1)) in
     omega (arith, distance-is c, h, e, w, l)
 
-cast-t18 : tie.Need-cast-t18
-cast-t18 c =
+cast-t17 : tie.Need-cast-t17
+cast-t17 c =
     let k = c .before .before in
     capped-fits (k .before .before .before .before .before .before .before .before .before .before .before .pre .1 .0) _ (within k)
 
-cast-t19 : tie.Need-cast-t19
-cast-t19 c = distance-below c ∴ simp ints (omega arith)
+cast-t18 : tie.Need-cast-t18
+cast-t18 c = distance-below c ∴ simp ints (omega arith)
 
 returns-2 : tie.Need-returns-2
 returns-2 c =
@@ -186,8 +182,8 @@ returns-2 c =
     let t = s .fits .span in
     let h = capped-half (s .pre .1 .0) _ (within k) in
     let d = distance-below c in
-    ap Passed (same-extent (simp plain) (simp plain (ap pos (within-is (within k) .0))) (simp plain (ap pos (distance-is c ∙ ap (λ (a : Size.Turn). a .distance) (sym (working-is s))))))
-    ∙ sym (ap checkedOf (passed 8 _ (capped-passes _ _ (within k))))
+    ap answer (same-extent (simp plain) (simp plain (ap pos (within-is (within k) .0))) (simp plain (ap pos (distance-is c ∙ ap (λ (a : Size.Turn). a .distance) (sym (working-is s))))))
+    ∙ sym (passed 8 _ (capped-passes _ _ (within k)))
 
 pub sized-spec : {M : Type 1} → statement M
 sized-spec =
@@ -202,9 +198,8 @@ sized-spec =
     alter-period-requires
     enum-known-working
     enum-told
-    number-requires
     returns
     alter-distance-requires
+    cast-t17
     cast-t18
-    cast-t19
     returns-2)

@@ -1,6 +1,6 @@
 -- `operand_checks::grouping::group` meets its contract: check 7 stands before the others.
 -- Assumes nothing.
-use mathlib.Core.Path.{_≡_, sym, _∙_, ap}
+use mathlib.Core.Path.{_≡_, sym, _∙_}
 use borrow.Author.Tests.{not-true, not-false}
 use borrow.Author.Needs.{needs}
 use Rattle.integers.specs.Parts.{up}
@@ -9,17 +9,12 @@ use Rattle.calendar.specs.Meaning.{Row}
 use Rattle.calendar.specs.Granules.{full}
 use Rattle.calendar.specs.Questions.{given}
 use Rattle.alignment.proofs.Rising.{limited}
-use Rattle.operand_checks.specs.declared.Checked.the-variants.{Refused}
-use Rattle.operand_checks.specs.Admission.{checkedOf}
 use Rattle.operand_checks.proofs.Replies.{passed, failed, group-is}
 use Rattle.operand_checks.proofs.grouping.group.Statement.{statement}
 use Rattle.operand_checks.proofs.grouping.group.Tie as tie
 
 is-full-requires : tie.Need-is-full-requires
 is-full-requires c κs = search needs
-
-number-requires : tie.Need-number-requires
-number-requires c κs = search needs
 
 abbrev row : tie.Start → Row
 row s = given (s .args .period) (s .args .distance) (s .args .cells .now)
@@ -32,9 +27,8 @@ full-is c =
 
 returns : tie.Need-returns
 returns c =
-    let s = c .before .before .before in
-    ap Refused (c .number .ensures)
-    ∙ sym (ap checkedOf (group-is (up (s .args .x)) (row s) (up (s .args .room)) ∙ failed 7 _ (sym (full-is (c .before .before)) ∙ not-true _ (c .before .if1 .taken))))
+    let s = c .before .before in
+    sym (group-is (up (s .args .x)) (row s) (up (s .args .room)) ∙ failed 7 _ (sym (full-is (c .before)) ∙ not-true _ (c .if1 .taken)))
 
 grouped-requires : tie.Need-grouped-requires
 grouped-requires c κs =
@@ -53,8 +47,8 @@ returns-2 c =
     let p = s .fits .period in
     let n = s .fits .distance in
     simp plain at (c .grouped .ensures)
-    ∙ sym (ap checkedOf (group-is (up (s .args .x)) (row s) (up (s .args .room)) ∙ passed 7 _ (sym (full-is (c .before .before)) ∙ not-false _ (c .before .if1 .left))))
+    ∙ sym (group-is (up (s .args .x)) (row s) (up (s .args .room)) ∙ passed 7 _ (sym (full-is (c .before .before)) ∙ not-false _ (c .before .if1 .left)))
 
 pub group-spec : {M : Type 1} → statement M
 group-spec =
-    tie.close (tie.spec is-full-requires number-requires returns grouped-requires returns-2)
+    tie.close (tie.spec is-full-requires returns grouped-requires returns-2)

@@ -21,8 +21,7 @@ use Rattle.calendar.specs.Size as Size
 use Rattle.calendar.specs.Size.{periodUnary}
 use Rattle.sizes.specs.declared.Turn.{Turn}
 use Rattle.sizes.specs.Stored.{turnOf}
-use Rattle.operand_checks.specs.declared.Checked.the-variants.{Refused, Passed}
-use Rattle.operand_checks.specs.Admission.{checkedOf}
+use Rattle.calendar.specs.Reply.Reply.{answer}
 use Rattle.operand_checks.specs.Shared.{turnFor}
 use Rattle.operand_checks.proofs.Naturals.{Natural, natural, up-mono, distance-limit}
 use Rattle.operand_checks.proofs.Spans.{capped-past, capped-half, capped-fits}
@@ -67,9 +66,6 @@ enum-known-working c = search needs
 enum-told : tie.Need-enum-told
 enum-told c = search needs
 
-number-requires : tie.Need-number-requires
-number-requires c κs = search needs
-
 capped-is : (c : tie.After-group-period) → let s = c .before .before in
     c .group-period .result ≡ cappedAt (up (s .args .room)) (periodUnary (group (up (s .args .x))) (row s))
 capped-is c =
@@ -80,10 +76,9 @@ capped-is c =
 
 returns : tie.Need-returns
 returns c =
-    let t = c .before .before .before in
+    let t = c .before .before in
     let s = t .before .before in
-    ap Refused (c .number .ensures)
-    ∙ sym (ap checkedOf (grouped-fails (up (s .args .x)) (row s) (up (s .args .room)) (capped-past _ _ (sym (capped-is t) ∙ c .before .enum-told .given .1))))
+    sym (grouped-fails (up (s .args .x)) (row s) (up (s .args .room)) (capped-past _ _ (sym (capped-is t) ∙ c .enum-told .given .1)))
 
 within : (c : tie.After-known-told) → let s = c .before .before .before .before .before in
     cappedAt (up (s .args .room)) (periodUnary (group (up (s .args .x))) (row s)) ≡ Within (c .before .working .given .0 .0)
@@ -92,8 +87,8 @@ within c = sym (capped-is (c .before .before .before)) ∙ c .before .working .g
 gcd-requires : tie.Need-gcd-requires
 gcd-requires c κs = search needs
 
-cast-t13 : tie.Need-cast-t13
-cast-t13 c = capped-fits (c .before .before .before .before .before .before .pre .1 .0) _ (within (c .before))
+cast-t12 : tie.Need-cast-t12
+cast-t12 c = capped-fits (c .before .before .before .before .before .before .pre .1 .0) _ (within (c .before))
 
 common-is : (c : tie.After-gcd) → let s = c .before .before .before .before .before .before in c .gcd .result ≡ gcd (up (s .args .x)) (up (s .args .distance))
 common-is c =
@@ -117,8 +112,8 @@ distance-fits c =
     let s = c .before .before .before .before .before .before .before in
     omega (arith, distance-is c, div-le-self (up (s .args .distance)) (gcd (up (s .args .x)) (up (s .args .distance))), distance-limit (s .pre .1 .1))
 
-cast-t14 : tie.Need-cast-t14
-cast-t14 c = distance-fits c ∴ simp ints (omega arith)
+cast-t13 : tie.Need-cast-t13
+cast-t13 c = distance-fits c ∴ simp ints (omega arith)
 
 returns-2 : tie.Need-returns-2
 returns-2 c =
@@ -128,8 +123,8 @@ returns-2 c =
     let h = capped-half (s .pre .1 .0) _ (within k) in
     let d = half (distance-fits c) in
     let w = within-is (within k) in
-    ap Passed (same-extent (simp plain (sym (pos-up (s .pre .1 .1 .low ∴ s .pre .1 .1 .middle ∴ simp ints (omega arith))))) (simp plain (ap pos (w .0))) (simp plain (ap pos (distance-is c))))
-    ∙ sym (ap checkedOf (grouped-passes (up (s .args .x)) (row s) (up (s .args .room)) (positive s) (w .1)))
+    ap answer (same-extent (simp plain (sym (pos-up (s .pre .1 .1 .low ∴ s .pre .1 .1 .middle ∴ simp ints (omega arith))))) (simp plain (ap pos (w .0))) (simp plain (ap pos (distance-is c))))
+    ∙ sym (grouped-passes (up (s .args .x)) (row s) (up (s .args .room)) (positive s) (w .1))
   where
     half : {n : ℕ} → n ≤ poolLimit → n < 2 ^ 63
     half h = omega arith
@@ -144,10 +139,9 @@ grouped-spec =
     group-period-requires
     enum-known-working
     enum-told
-    number-requires
     returns
     gcd-requires
-    cast-t13
+    cast-t12
     div-t10
-    cast-t14
+    cast-t13
     returns-2)

@@ -1,6 +1,6 @@
 -- `operand_checks::spanning::anchor` meets its contract: check 7 stands before those that it shares with other kinds.
 -- Assumes nothing.
-use mathlib.Core.Path.{_≡_, sym, _∙_, ap}
+use mathlib.Core.Path.{_≡_, sym, _∙_}
 use borrow.Author.Tests.{not-true, not-false}
 use borrow.Author.Needs.{needs}
 use Rattle.integers.specs.Parts.{up}
@@ -8,17 +8,12 @@ use Rattle.integers.proofs.Machine.{plain}
 use Rattle.calendar.specs.Meaning.{Row}
 use Rattle.calendar.specs.Granules.{full}
 use Rattle.calendar.specs.Questions.{given}
-use Rattle.operand_checks.specs.declared.Checked.the-variants.{Refused}
-use Rattle.operand_checks.specs.Admission.{checkedOf}
 use Rattle.operand_checks.proofs.Replies.{passed, failed, anchor-is}
 use Rattle.operand_checks.proofs.spanning.anchor.Statement.{statement}
 use Rattle.operand_checks.proofs.spanning.anchor.Tie as tie
 
 is-full-requires : tie.Need-is-full-requires
 is-full-requires c κs = search needs
-
-number-requires : tie.Need-number-requires
-number-requires c κs = search needs
 
 -- the operands
 abbrev row-a : tie.Start → Row
@@ -35,9 +30,8 @@ full-is c =
 
 returns : tie.Need-returns
 returns c =
-    let s = c .before .before .before in
-    ap Refused (c .number .ensures)
-    ∙ sym (ap checkedOf (anchor-is (row-a s) (row-b s) (up (s .args .room)) ∙ failed 7 _ (sym (full-is (c .before .before)) ∙ not-true _ (c .before .if1 .taken))))
+    let s = c .before .before in
+    sym (anchor-is (row-a s) (row-b s) (up (s .args .room)) ∙ failed 7 _ (sym (full-is (c .before)) ∙ not-true _ (c .if1 .taken)))
 
 spanned-requires : tie.Need-spanned-requires
 spanned-requires c κs = search needs
@@ -51,8 +45,8 @@ returns-2 c =
     let q = s .fits .b-period in
     let m = s .fits .b-distance in
     simp plain at (c .spanned .ensures)
-    ∙ sym (ap checkedOf (anchor-is (row-a s) (row-b s) (up (s .args .room)) ∙ passed 7 _ (sym (full-is (c .before .before)) ∙ not-false _ (c .before .if1 .left))))
+    ∙ sym (anchor-is (row-a s) (row-b s) (up (s .args .room)) ∙ passed 7 _ (sym (full-is (c .before .before)) ∙ not-false _ (c .before .if1 .left)))
 
 pub anchor-spec : {M : Type 1} → statement M
 anchor-spec =
-    tie.close (tie.spec is-full-requires number-requires returns spanned-requires returns-2)
+    tie.close (tie.spec is-full-requires returns spanned-requires returns-2)

@@ -15,8 +15,7 @@ use Rattle.calendar.specs.Size.{turn, spanOf}
 use Rattle.calendar.specs.Checks.{alignedAs}
 use Rattle.calendar.specs.Questions.{given}
 use Rattle.alignment.proofs.Rising.{limited}
-use Rattle.operand_checks.specs.declared.Checked.the-variants.{Refused, Passed}
-use Rattle.operand_checks.specs.Admission.{checkedOf}
+use Rattle.calendar.specs.Reply.Reply.{answer}
 use Rattle.operand_checks.specs.Shared.{alignmentOf, overSpan}
 use Rattle.operand_checks.proofs.Spans.{capped-past, capped-passes, capped-half, capped-fits, capped-spanned}
 use Rattle.operand_checks.proofs.Replies.{passed, failed}
@@ -58,13 +57,10 @@ enum-known-capped c = search needs
 enum-told : tie.Need-enum-told
 enum-told c = search needs
 
-number-requires : tie.Need-number-requires
-number-requires c κs = search needs
-
 returns : tie.Need-returns
 returns c =
-    let t = c .before .before .before in
-    ap Refused (c .number .ensures) ∙ sym (ap checkedOf (failed 8 _ (capped-past _ _ (sym (capped-is t) ∙ c .before .enum-told .given .1))))
+    let t = c .before .before in
+    sym (failed 8 _ (capped-past _ _ (sym (capped-is t) ∙ c .enum-told .given .1)))
 
 within : (c : tie.After-known-told) → let s = c .before .before .before .before in
     cappedAt (up (s .args .room)) (spanOf (turn (row-a s)) (turn (row-b s))) ≡ Within (c .before .capped .given .0 .0)
@@ -102,9 +98,6 @@ over-span-requires c κs =
     let l = capped-spanned (row-a s) (row-b s) (s .pre .1 .1) (within k) .at-most in
     simp plain (limited _ _ _ (s .pre .0), (simp ints (omega arith), l))
 
-number-requires-2 : tie.Need-number-requires-2
-number-requires-2 c κs = search needs
-
 returns-2 : tie.Need-returns-2
 returns-2 c =
     let k = c .before .before .before in
@@ -113,14 +106,13 @@ returns-2 c =
     let p = s .fits .a-period in
     let n = s .fits .a-distance in
     let e : c .over-span .result ≡ overSpan (turn (row-a s)) (k .before .capped .given .0 .0) = simp plain at (c .over-span .ensures) in
-    ap Passed (e ∙ ap (overSpan (turn (row-a s))) (within-is (within k) .0))
-    ∙ sym (ap checkedOf (passed 8 _ (capped-passes _ _ (within k)) ∙ passed 9 _ (sym (aligned-is (c .before .before)) ∙ c .before .if1 .taken)))
+    ap answer (e ∙ ap (overSpan (turn (row-a s))) (within-is (within k) .0))
+    ∙ sym (passed 8 _ (capped-passes _ _ (within k)) ∙ passed 9 _ (sym (aligned-is (c .before .before)) ∙ c .before .if1 .taken))
 
 returns-3 : tie.Need-returns-3
 returns-3 c =
-    let k = c .before .before .before in
-    ap Refused (c .number2 .ensures)
-    ∙ sym (ap checkedOf (passed 8 _ (capped-passes _ _ (within k)) ∙ failed 9 _ (sym (aligned-is (c .before .before)) ∙ c .before .if1 .left)))
+    let k = c .before .before in
+    sym (passed 8 _ (capped-passes _ _ (within k)) ∙ failed 9 _ (sym (aligned-is (c .before)) ∙ c .if1 .left))
 
 pub spanned-spec : {M : Type 1} → statement M
 spanned-spec =
@@ -129,11 +121,9 @@ spanned-spec =
     span-of-requires
     enum-known-capped
     enum-told
-    number-requires
     returns
     cast-span
     aligned-requires
     over-span-requires
-    number-requires-2
     returns-2
     returns-3)

@@ -1,13 +1,12 @@
--- `naming::names` meets its contract: the kind is that of the entry, and the operands are those that it names.
+-- `entries::naming::names` meets its contract: the kind is that of the entry, and the operands are those that it names.
 -- Assumes nothing.
 use borrow.Author.Needs.{needs}
 use Rattle.integers.proofs.Machine.{plain}
 use Rattle.entries.proofs.Fields.{Fields}
 use Rattle.entries.proofs.Naturals.{cast-natural}
-use Rattle.naming.proofs.Passing.{passed}
-use Rattle.naming.proofs.Seconds.{second-fits, second-low, names-all}
-use Rattle.naming.proofs.names.Statement.{statement}
-use Rattle.naming.proofs.names.Tie as tie
+use Rattle.entries.proofs.Seconds.{second-fits, second-low, names-all}
+use Rattle.entries.proofs.naming.names.Statement.{statement}
+use Rattle.entries.proofs.naming.names.Tie as tie
 
 kind-of-requires : tie.Need-kind-of-requires
 kind-of-requires c κs = search needs
@@ -22,18 +21,16 @@ cast-t4 : tie.Need-cast-t4
 cast-t4 c =
     let s = c .before .before .before .before .before .before in
     let f = fields s .first in
-    let p = s .pre in
-    simp plain (cast-natural f (passed (p .0) _ (p .1) (p .2) .first-low))
+    simp plain (cast-natural f (s .pre .0))
 
 cast-t5 : tie.Need-cast-t5
 cast-t5 c =
     let s = c .before .before .before .before .before .before in
-    let p = s .pre in
     let e = c .before .before .second-of .ensures in
     let k = c .before .before .before .before .before .kind-of .result in
     let z = c .before .before .second-of .result in
     let f = second-fits _ (fields s) k z e in
-    simp plain (cast-natural f (second-low _ (fields s) k z e (p .0) (p .1) (p .2)))
+    simp plain (cast-natural f (second-low _ (fields s) k z e (s .pre .0) (s .pre .1)))
 
 returns : tie.Need-returns
 returns c k o h =

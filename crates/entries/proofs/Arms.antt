@@ -22,12 +22,12 @@ use Rattle.calendar.specs.Table.{named}
 use Rattle.kinds.specs.declared.Pick.{Pick}
 use Rattle.kinds.specs.declared.Selection.the-variants.{Down, Up, Intersecting}
 use Rattle.kinds.specs.declared.Alteration.{Alteration}
 use Rattle.entries.specs.declared.Entry.{Entry}
 use Rattle.entries.specs.Entries.{entryOf, kindOf}
 use Rattle.kinds.specs.declared.SetOperation.the-variants.{Union, Intersection, Difference}
 use Rattle.kinds.specs.declared.Kind.the-variants.{Bottom, Group, Shift, Alter, Combine, Anchor, Select, ByLabels, Renumber}
-use Rattle.naming.specs.Naming.{KindOf}
-use Rattle.naming.proofs.Passing.{factor-limits, label-limits, altering-limits, picking-limits, passed, passed-at}
+use Rattle.entries.specs.Naming.{KindOf}
+use Rattle.entries.proofs.Passing.{factor-limits, label-limits, altering-limits, picking-limits, passed, passed-at}
 
 -- ---- the number of a kind, by its bits
 

@@ -1,12 +1,12 @@
--- `naming::kind_of` meets its contract: each arm makes the kind of its number.
+-- `entries::naming::kind_of` meets its contract: each arm makes the kind of its number.
 -- Assumes nothing.
 use mathlib.Core.Path.{refl}
 use borrow.Author.Needs.{needs}
 use Rattle.entries.proofs.Fields.{Fields}
-use Rattle.naming.proofs.Passing.{passed}
-use Rattle.naming.proofs.Arms.{number-at, widened-is, last-number, bottom-kind, group-kind, shift-kind, alter-kind, combine-kind, anchor-kind, down-kind, up-kind, intersecting-kind, union-kind, intersection-kind, difference-kind, renumber-kind}
-use Rattle.naming.proofs.kind_of.Statement.{statement}
-use Rattle.naming.proofs.kind_of.Tie as tie
+use Rattle.entries.proofs.Passing.{passed}
+use Rattle.entries.proofs.Arms.{number-at, widened-is, last-number, bottom-kind, group-kind, shift-kind, alter-kind, combine-kind, anchor-kind, down-kind, up-kind, intersecting-kind, union-kind, intersection-kind, difference-kind, renumber-kind}
+use Rattle.entries.proofs.naming.kind_of.Statement.{statement}
+use Rattle.entries.proofs.naming.kind_of.Tie as tie
 
 wide-requires : tie.Need-wide-requires
 wide-requires c κs = search needs

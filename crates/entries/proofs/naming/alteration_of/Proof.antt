@@ -1,10 +1,10 @@
--- `naming::alteration_of` meets its contract: its fields are those of the entry.
+-- `entries::naming::alteration_of` meets its contract: its fields are those of the entry.
 -- Assumes nothing.
 use borrow.Author.Needs.{needs}
 use Rattle.entries.proofs.Fields.{Fields}
-use Rattle.naming.proofs.Arms.{widened-is}
-use Rattle.naming.proofs.alteration_of.Statement.{statement}
-use Rattle.naming.proofs.alteration_of.Tie as tie
+use Rattle.entries.proofs.Arms.{widened-is}
+use Rattle.entries.proofs.naming.alteration_of.Statement.{statement}
+use Rattle.entries.proofs.naming.alteration_of.Tie as tie
 
 wide-requires : tie.Need-wide-requires
 wide-requires c κs = search needs

@@ -1,9 +1,9 @@
--- `naming::second_of` meets its contract: each arm gives the operand that is the second of its kind.
+-- `entries::naming::second_of` meets its contract: each arm gives the operand that is the second of its kind.
 -- Assumes nothing.
 use borrow.Author.Needs.{needs}
 use Rattle.integers.proofs.Machine.{plain}
-use Rattle.naming.proofs.second_of.Statement.{statement}
-use Rattle.naming.proofs.second_of.Tie as tie
+use Rattle.entries.proofs.naming.second_of.Statement.{statement}
+use Rattle.entries.proofs.naming.second_of.Tie as tie
 
 enum-told : tie.Need-enum-told
 enum-told c = search needs

@@ -1,26 +1,22 @@
-// What an entry that has passed checks 4, 5 and 6 names.
+// What an entry names: its kind with its numbers, and its operands.
 
 ghost use mathlib.Core.Path.{_≡_};
 ghost use Prim.Native.Nat.{ℕ};
+ghost use lib.IntN.{pos};
+ghost use lib.Signed.{_≤ℤ_};
 ghost use Rattle.calendar.specs.Operation.{Operation};
 ghost use Rattle.calendar.specs.Reply.Reply.{answer};
 ghost use Rattle.calendar.specs.Table.{named};
-ghost use Rattle.entries.specs.Entries.{entryOf};
 ghost use Rattle.kinds.specs.Operations.{operands};
-ghost use Rattle.naming.specs.Naming.{Passes, KindOf, secondOf, Names};
-use entries::Entry;
+ghost use Rattle.entries.specs.Entries.{entryOf};
+ghost use Rattle.entries.specs.Naming.{KindOf, secondOf, Names};
+use super::Entry;
+use super::Named;
 use kinds::Alteration;
 use kinds::Kind;
 use kinds::Pick;
 use kinds::Selection;
 use kinds::SetOperation;
-
-// An operation over the rows of earlier entries: its kind and its operands. A kind that names fewer than two is given the first one twice.
-pub struct Named {
-    pub kind: Kind,
-    pub first: usize,
-    pub second: usize,
-}
 
 fn wide(x: i32) -> i64
     ensures { λ r. ⌜ r ≡ x ⌝ }
@@ -49,7 +45,6 @@ fn alteration_of(e: Entry) -> Alteration
 
 // The kind with its numbers, by its number 0 to 12.
 fn kind_of(e: Entry) -> Kind
-    requires { ⌜ Passes e ⌝ }
     ensures { λ r. ⌜ ((k : ℕ) (o : Operation ℕ) → named k (entryOf e) ≡ answer o → KindOf e o r) ⌝ }
 {
     let kind = e.kind;
@@ -87,9 +82,9 @@ fn second_of(kind: Kind, first: i32, second: i32) -> i32
     }
 }
 
-// The operation that the entry names.
+// The operation that the entry names, if it passes checks 4, 5 and 6.
 pub fn names(e: Entry) -> Named
-    requires { ⌜ Passes e ⌝ }
+    requires { ⌜ (pos 0 ≤ℤ e .first) × (pos 0 ≤ℤ e .second) ⌝ }
     ensures { λ r. ⌜ ((k : ℕ) (o : Operation ℕ) → named k (entryOf e) ≡ answer o → Names k o r) ⌝ }
 {
     let kind = kind_of(e);

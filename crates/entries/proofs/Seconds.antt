@@ -12,15 +12,16 @@ use Rattle.integers.specs.Parts.{up}
 use Rattle.calendar.specs.Operation.{Operation}
 use Rattle.calendar.specs.Reply.Reply.{answer}
 use Rattle.calendar.specs.Table.{named}
+use Rattle.algebra.proofs.Named.{named-operation}
 use Rattle.entries.specs.declared.Entry.{Entry}
 use Rattle.entries.specs.Entries.{entryOf}
 use Rattle.entries.proofs.Fields.{Fields}
 use Rattle.kinds.specs.declared.Kind.{Kind}
 use Rattle.kinds.specs.declared.Kind.the-variants.{Bottom, Group, Shift, Alter, Combine, Anchor, Select, ByLabels, Renumber}
 use Rattle.kinds.specs.Operations.{operationOf, operands}
-use Rattle.naming.specs.Naming.{KindOf, secondOf, Names}
+use Rattle.entries.specs.Naming.{KindOf, secondOf, Names}
 use Rattle.entries.proofs.Naturals.{natAbs-up}
-use Rattle.naming.proofs.Passing.{Passed, passed}
+use Rattle.entries.proofs.Passing.{Passed, passed}
 
 -- an operand that is not named does not show
 second-same : (k : Kind) (f s : ℤ) → operationOf k (up f) (up (secondOf (operands k) f s)) ≡ operationOf k (up f) (up s)
@@ -53,12 +54,12 @@ module _ (e : Entry) (fields : Fields e) (kind : Kind) (z : ℤ) (is : z ≡ sec
   pub second-fits : SFits w32 z
   second-fits = rw second-is (second-either (SFits w32) (operands kind) (e .first) (e .second) (fields .first) (fields .second))
 
+  pub second-low : pos 0 ≤ℤ e .first → pos 0 ≤ℤ e .second → pos 0 ≤ℤ z
+  second-low f s = rw second-is (second-either (λ s. pos 0 ≤ℤ s) (operands kind) (e .first) (e .second) f s)
+
   module _ (k : ℕ) (o : Operation ℕ) (h : named k (entryOf e) ≡ answer o) where
     p : Passed k (entryOf e) o
     p = passed k (entryOf e) o h
-
-    pub second-low : pos 0 ≤ℤ z
-    second-low = rw second-is (second-either (λ s. pos 0 ≤ℤ s) (operands kind) (e .first) (e .second) (p .first-low) (p .second-low))
 
     second-high : up z ≤ k
     second-high = rw second-is (second-either (λ s. up s ≤ k) (operands kind) (e .first) (e .second) (p .first) (p .second))
@@ -67,7 +68,7 @@ module _ (e : Entry) (fields : Fields e) (kind : Kind) (z : ℤ) (is : z ≡ sec
     first-read = ap natAbs (toZ-ofZ w32 (e .first) (fields .first)) ∙ natAbs-up (p .first-low)
 
     second-read : natAbs (toZ w32 (ofZ w32 z)) ≡ up z
-    second-read = ap natAbs (toZ-ofZ w32 z second-fits) ∙ natAbs-up second-low
+    second-read = ap natAbs (toZ-ofZ w32 z second-fits) ∙ natAbs-up (second-low (p .first-low) (p .second-low))
 
     pub names-all : KindOf e o kind → Names k o (record { kind = kind; first = natAbs (toZ w32 (ofZ w32 (e .first))); second = natAbs (toZ w32 (ofZ w32 z)) })
     names-all n = rw (first-read, second-read) (record {
@@ -75,5 +76,6 @@ module _ (e : Entry) (fields : Fields e) (kind : Kind) (z : ℤ) (is : z ≡ sec
       numbers = n .numbers;
       first = p .first;
       second = second-high;
+      earlier = named-operation k (entryOf e) o h .1;
       twice = λ l. ap up (second-is ∙ second-first (operands kind) (e .first) (e .second) l);
     })
