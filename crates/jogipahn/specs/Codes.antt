@@ -8,8 +8,6 @@ use lib.Ieee.{Float, fin}
 use Rattle.calendar.specs.Meaning.{Row}
 use Rattle.calendar.specs.Reply.{Reply}
 use Rattle.calendar.specs.Reply.Reply.{refused, answer}
-use Rattle.calendar.specs.Outcome.{Outcome}
-use Rattle.calendar.specs.Outcome.Outcome.{refusedAt, rows}
 use Rattle.calendar.specs.Granules.{granules}
 use Rattle.calendar.specs.Questions.{labelledInstants}
 use Rattle.floats.specs.Figures.{Quotients}
@@ -69,11 +67,6 @@ allowanceOf (pos (suc (suc n))) v = Fixed (fin true 1 (pos 0))
 allowanceOf (negsuc n) v = Fixed (fin true 1 (pos 0))
 
 -- ---- conversion: 0, or 100 times the refusal's number plus the entry
-abbrev pub conversionCode : Outcome → ℤ
-conversionCode (refusedAt n k) = pos (100 * n + k)
-conversionCode (rows l) = pos 0
-
--- the same of the answer of the code
-abbrev pub codeOf : Conversion → ℤ
-codeOf (Refused n k) = pos (100 * n + k)
-codeOf Converted = pos 0
+abbrev pub conversionCode : Conversion → ℤ
+conversionCode (Refused n k) = pos (100 * n + k)
+conversionCode Converted = pos 0

@@ -3,16 +3,13 @@
 // question's refusal is its number below zero.
 
 ghost use mathlib.Core.Path.{_≡_};
-ghost use Prim.Native.Nat.{_/_};
 ghost use lib.ListN.{length};
-ghost use Rattle.calendar.specs.Limits.{headingLength};
 ghost use Rattle.calendar.specs.Refusals.{numberOf};
-ghost use Rattle.calendar.specs.Outcome.{outcome};
-ghost use Rattle.calendar.specs.Stored.{poolAfter, headingsAfter};
 ghost use Rattle.calendar.specs.Questions.{given};
 ghost use Rattle.calendar.specs.Questions as Q;
 ghost use Rattle.questions.specs.Answers.{upReply, counted, partsAfter, mayBeLate};
-ghost use Rattle.jogipahn.specs.Codes.{refusalCode, upCode, upLabel, downCode, FiguresLeft, lateCode, allowanceOf, conversionCode, codeOf};
+ghost use Rattle.jogipahn.specs.LeftCoded.{LeftCoded};
+ghost use Rattle.jogipahn.specs.Codes.{refusalCode, upCode, upLabel, downCode, FiguresLeft, lateCode, allowanceOf, conversionCode};
 use calendar::Refusal;
 use conversion::Conversion;
 use floats::Allowance;
@@ -188,7 +185,7 @@ pub extern "C" fn jogipahn_may_be_late(
 
 // What converting came to as a number.
 fn conversion_code(c: Conversion) -> i64
-    ensures { λ r. ⌜ r ≡ codeOf c ⌝ }
+    ensures { λ r. ⌜ r ≡ conversionCode c ⌝ }
 {
     match c {
         Conversion::Refused(number, entry) => 100 * (number as i64) + entry as i64,
@@ -199,9 +196,7 @@ fn conversion_code(c: Conversion) -> i64
 // Converts a table, with three numbers a heading: 0, or 100 times the refusal's number plus its entry.
 #[no_mangle]
 pub extern "C" fn jogipahn_convert(table: &[i32], headings: &mut [u32], pool: &mut [i32]) -> i64
-    ensures code { λ r. ⌜ r ≡ conversionCode (outcome (now (table .entry)) (length (now (headings .entry)) / headingLength) (length (now (pool .entry)))) ⌝ }
-    ensures headings { λ r. ⌜ now (headings .exit) ≡ headingsAfter (length (now (headings .entry))) (outcome (now (table .entry)) (length (now (headings .entry)) / headingLength) (length (now (pool .entry)))) ⌝ }
-    ensures pool { λ r. ⌜ now (pool .exit) ≡ poolAfter (length (now (pool .entry))) (outcome (now (table .entry)) (length (now (headings .entry)) / headingLength) (length (now (pool .entry)))) ⌝ }
+    ensures { λ r. ⌜ LeftCoded (now (table .entry)) (length (now (headings .entry))) (length (now (pool .entry))) r (now (headings .exit)) (now (pool .exit)) ⌝ }
 {
     let converted = conversion::convert(table, &mut *headings, &mut *pool);
     conversion_code(converted)

@@ -10,7 +10,7 @@ use mir.Val.{SFits, ofZ, toZ}
 use mir.Facts.{toZ-ofZ}
 use Rattle.integers.proofs.Linear.{ints}
 use Rattle.integers.proofs.Machine.{plain}
-use Rattle.jogipahn.specs.Codes.{codeOf}
+use Rattle.jogipahn.specs.Codes.{conversionCode}
 use Rattle.jogipahn.proofs.c_api.conversion_code.Statement.{statement}
 use Rattle.jogipahn.proofs.c_api.conversion_code.Tie as tie
 
@@ -55,10 +55,10 @@ enum-told c = search needs
 returns : tie.Need-returns
 returns c =
     let k = c .before in
-    code (k .c .given .0 .0) (k .c .given .0 .1 .0) (omega arith) (omega arith) ∙ sym (ap codeOf (k .c .given .1))
+    code (k .c .given .0 .0) (k .c .given .0 .1 .0) (omega arith) (omega arith) ∙ sym (ap conversionCode (k .c .given .1))
 
 returns-2 : tie.Need-returns-2
-returns-2 c = sym (ap codeOf (c .enum-told .given .1))
+returns-2 c = sym (ap conversionCode (c .enum-told .given .1))
 
 pub conversion-code-spec : {M : Type 1} → statement M
 conversion-code-spec =
