@@ -9,7 +9,7 @@ use lib.IntN.{ℤ, pos, _+ℤ_}
 use lib.Signed.{_≤ℤ_, _<ℤ_, leZ}
 use lib.ListN.{length}
 use Rattle.integers.proofs.Linear.{ints, _∴_}
-use Rattle.integers.proofs.Order.{le-or-lt}
+use Rattle.integers.proofs.Order.{≤ℤ-trans, le-or-lt}
 use Rattle.calendar.specs.Algebra.{Rising, positions}
 use Rattle.calendar.specs.Lists.{any, equal}
 use Rattle.granules.proofs.Tests.{true≢false, and-iff, test-ext, leZ-iff}
@@ -169,3 +169,14 @@ module _ (lo hi p : ℤ) (l : List ℤ) (r : Rising l) where
       let k = has-member taken (b .0 ∴ b .1 ∴ simp ints (omega arith)) in
       let f = ends-of (k .0) taken rises (k .1) in
       member-iff j taken .1 (taken-between lo hi p _ j _ l r n (f .0 .0) (f .1 .0) (b .0) (b .1)))
+
+-- a rising list has a member exactly if one is at its first position
+pub first-taken : (l : List ℤ) → Rising l → let m = positions (pos 1) (pos 1) (pos 1) l in (firstOr (pos 1) m ≤ℤ lastOr (pos 0) m) ↔ ((k : ℤ) × List·Memᴰ k l)
+first-taken l r = (λ h. (_, ends-taken (pos 1) (pos 1) (pos 1) l r h .0), λ k. by l r (k .1))
+  where
+    by : (l : List ℤ) → Rising l → {k : ℤ} → List·Memᴰ k l → let m = positions (pos 1) (pos 1) (pos 1) l in firstOr (pos 1) m ≤ℤ lastOr (pos 0) m
+    by [] r n = absurd (List·Memᴰ·not-nil n)
+    by (x ∷ l) r n =
+        let here = taken-cons (pos 1) (pos 1) (pos 1) x x l .1 (inl (refl, asked-iff (pos 1) (pos 1) (pos 1) .1 (simp ints (omega arith), simp ints (omega arith)))) in
+        let e = ends-of x (positions (pos 1) (pos 1) (pos 1) (x ∷ l)) (taken-rising (pos 1) (pos 1) (pos 1) (x ∷ l) r) here in
+        ≤ℤ-trans (e .0 .1) (e .1 .1)

@@ -19,37 +19,7 @@ pub struct Instant {
     pub other: Cursor,
 }
 
-// The first instant of g's granule j, of which t is one: back from t, past instants with no label, until another label shows.
-pub fn first_of(
-    j: i64,
-    t: i64,
-    g: Cursor,
-    h: Cursor,
-    g_cells: &[i32],
-    g_period: i64,
-    g_distance: i64,
-    h_cells: &[i32],
-    h_period: i64,
-    h_distance: i64,
-) -> Instant
-    requires { ⌜ Sound «g_period» «g_distance» (now «g_cells») ⌝ }
-    requires { ⌜ Sound «h_period» «h_distance» (now «h_cells») ⌝ }
-    requires { ⌜ Within (2 ^ 50) t ⌝ }
-    requires { ⌜ meant (given «g_period» «g_distance» (now «g_cells»)) t ≡ some j ⌝ }
-    requires { ⌜ g ≡ cursorAt (given «g_period» «g_distance» (now «g_cells»)) t ⌝ }
-    requires { ⌜ h ≡ cursorAt (given «h_period» «h_distance» (now «h_cells»)) t ⌝ }
-    ensures at { λ r. ⌜ r .at ≡ first (granule (given «g_period» «g_distance» (now («g_cells» .entry))) j) ⌝ }
-    ensures own { λ r. ⌜ r .own ≡ cursorAt (given «g_period» «g_distance» (now («g_cells» .entry))) (r .at) ⌝ }
-    ensures other { λ r. ⌜ r .other ≡ cursorAt (given «h_period» «h_distance» (now («h_cells» .entry))) (r .at) ⌝ }
-    ensures near { λ r. ⌜ Within (2 ^ 58) (r .at) ⌝ }
-{
-    let at = granule_ends::first_instant(g_cells, g_period, g_distance, t);
-    let own = cursors::cursor_at(g_cells, g_period, g_distance, at);
-    let other = cursors::cursor_at(h_cells, h_period, h_distance, at);
-    Instant { at, own, other }
-}
-
-// The first instant of g's granule j: t itself, where that is known.
+// The first instant of g's granule j, of which t is one: t itself, where that is known.
 pub fn began(
     fresh: bool,
     j: i64,
@@ -82,16 +52,8 @@ pub fn began(
             other: h,
         };
     }
-    first_of(
-        j,
-        t,
-        g,
-        h,
-        g_cells,
-        g_period,
-        g_distance,
-        h_cells,
-        h_period,
-        h_distance,
-    )
+    let at = granule_ends::first_instant(g_cells, g_period, g_distance, t);
+    let own = cursors::cursor_at(g_cells, g_period, g_distance, at);
+    let other = cursors::cursor_at(h_cells, h_period, h_distance, at);
+    Instant { at, own, other }
 }

@@ -1,9 +1,7 @@
 -- What selecting remembers of granules, and how it looks at them.
 --     Memos        what a scan remembers
---     Holding      the walk over a granule for a whole granule of the other row
 --     Deciding     a granule that is decided
 --     Meeting      a walk over a granule for the granules that it meets
 pub mod Memos
-pub mod Holding
 pub mod Deciding
 pub mod Meeting

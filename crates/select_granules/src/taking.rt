@@ -100,7 +100,8 @@ pub fn picked_at(
     ensures known { λ r. ⌜ (r .known ≡ pos 1) × (r .of ≡ i) ⌝ }
     ensures picks { λ r. ⌜ Picks pick (candidates whole (given «a_period» «a_distance» (now («a_cells» .entry))) (given «b_period» «b_distance» (now («b_cells» .entry))) i) r ⌝ }
 {
-    let first = candidates::ends::first_of(
+    let first = candidates::ends::began(
+        false,
         i,
         t,
         b,

@@ -15,6 +15,7 @@ use Rattle.calendar.specs.Meaning.{Row}
 use Rattle.calendar.specs.Algebra.{pickStart}
 use Rattle.calendar.specs.Questions.{given}
 use Rattle.granules.specs.Valid.{Valid}
+use Rattle.granules.proofs.Tests.{true≢false}
 use Rattle.granules.proofs.Questions.{first-at-most}
 use Rattle.cursors.specs.Found.{Within}
 use Rattle.cursors.proofs.Numbers.{valid}
@@ -47,8 +48,8 @@ b-rules s = valid (s .args .b-period) (s .args .b-distance) (s .args .b-cells .n
 
 -- ---- the first instant of the granule
 
-first-of-requires : tie.Need-first-of-requires
-first-of-requires s κs =
+began-requires : tie.Need-began-requires
+began-requires s κs =
     let p = s .fits .a-period in
     let n = s .fits .a-distance in
     let q = s .fits .b-period in
@@ -56,12 +57,12 @@ first-of-requires s κs =
     let i = s .fits .i in
     let t = s .fits .t in
     let r = s .pre .1 .1 .1 in
-    simp plain (s .pre .1 .0, (s .pre .0, (r .0, (r .1 .0, (r .1 .1 .1, r .1 .1 .0)))))
+    simp plain (s .pre .1 .0, (s .pre .0, (r .0, (r .1 .0, (r .1 .1 .1, (r .1 .1 .0, λ e. absurd (true≢false e refl)))))))
 
-first-fits : (c : tie.After-first-of) → SFits w64 (c .first-of .result .at)
-first-fits c = let l = c .first-of .ensures .1 .1 .1 in l .0 ∴ l .1 ∴ simp ints (omega arith)
+first-fits : (c : tie.After-began) → SFits w64 (c .began .result .at)
+first-fits c = let l = c .began .ensures .1 .1 .1 in l .0 ∴ l .1 ∴ simp ints (omega arith)
 
-begins : (c : tie.After-first-of) → let s = c .before in FirstInstant (b-row s) (s .args .i) (c .first-of .result .at)
+begins : (c : tie.After-began) → let s = c .before in FirstInstant (b-row s) (s .args .i) (c .began .result .at)
 begins c =
     let s = c .before in
     let q = s .fits .b-period in
@@ -69,8 +70,8 @@ begins c =
     let i = s .fits .i in
     let r = b-row s in
     let f = first-bounds r (b-rules s) (s .args .t) (s .args .i) (s .pre .1 .1 .1 .1 .0) in
-    let e = simp plain at (c .first-of .ensures .0) in
-    record { near = c .first-of .ensures .1 .1 .1; label = rw e (f .0); least = rw e (first-at-most r (b-rules s) (s .args .i)) }
+    let e = simp plain at (c .began .ensures .0) in
+    record { near = c .began .ensures .1 .1 .1; label = rw e (f .0); least = rw e (first-at-most r (b-rules s) (s .args .i)) }
 
 -- ---- the positions
 
@@ -82,7 +83,7 @@ pick-start-requires c κs =
     let q = s .fits .b-period in
     let m = s .fits .b-distance in
     let i = s .fits .i in
-    let e = c .first-of .ensures .1 in
+    let e = c .began .ensures .1 in
     simp plain (s .pre .0, (s .pre .1 .0, (s .pre .1 .1 .0, (begins c, (simp plain at (e .0), simp plain at (e .1 .0))))))
 
 low-is : (c : tie.After-pick-start) → let s = c .before .before in
@@ -141,7 +142,7 @@ tallied-requires c κs =
     let m = s .fits .b-distance in
     let i = s .fits .i in
     let t = first-fits d in
-    let e = d .first-of .ensures .1 in
+    let e = d .began .ensures .1 in
     simp plain (s .pre .0, (s .pre .1 .0, (begins d, (simp plain at (e .1 .0), simp plain at (e .0)))))
 
 picked-of-requires : tie.Need-picked-of-requires
@@ -197,4 +198,4 @@ returns c =
     )
 
 pub picked-at-spec : {M : Type 1} → statement M
-picked-at-spec = tie.close (tie.spec first-of-requires pick-start-requires add-tallied sub-tallied tallied-requires picked-of-requires returns)
+picked-at-spec = tie.close (tie.spec began-requires pick-start-requires add-tallied sub-tallied tallied-requires picked-of-requires returns)
