@@ -1,44 +1,13 @@
 // Converts stored tables and prints what comes of each: its refusal, or a line for each row with period, distance and cells, "." for no label. The
 // tables and what is to be printed are written by the second implementation (rust/src/vectors.rs).
 
-use calendar::Calendar;
 use conversion::Conversion;
 use conversion::HEADING_LENGTH;
+use printing::print;
+use printing::print_refusal;
+use printing::print_turn;
 
 mod tables;
-
-fn print(text: &[u8]) {
-    io::write_all(1, text);
-}
-
-// |v|. Of a negative v, -1 - v fits where -v may not.
-fn magnitude(v: i32) -> u64 {
-    if v < 0 { (-1 - v) as u64 + 1 } else { v as u64 }
-}
-
-fn print_cell(cell: i32) {
-    if cell == Calendar::EMPTY {
-        print(b".");
-        return;
-    }
-    if cell < 0 {
-        print(b"-");
-    }
-    io::print_decimal(1, magnitude(cell));
-}
-
-// The first n cells.
-fn print_cells(cells: &[i32], n: usize) {
-    let mut i = 0;
-    while i < n {
-        if i < cells.len() {
-            print(b" ");
-            print_cell(cells[i]);
-        }
-        i += 1;
-    }
-    print(b"\n");
-}
 
 // The row of a heading.
 fn print_row(start: u32, period: u32, distance: u32, pool: &[i32]) {
@@ -47,7 +16,8 @@ fn print_row(start: u32, period: u32, distance: u32, pool: &[i32]) {
     io::print_decimal(1, distance as u64);
     let from = start as usize;
     if from <= pool.len() {
-        print_cells(&pool[from..], period as usize);
+        print_turn(&pool[from..], period as usize, 0, 0);
+        print(b"\n");
     }
 }
 
@@ -58,14 +28,6 @@ fn print_rows(headings: &[u32], pool: &[i32]) {
         print_row(headings[at], headings[at + 1], headings[at + 2], pool);
         at += HEADING_LENGTH;
     }
-}
-
-fn print_refusal(number: u32, entry: u32) {
-    print(b"refused ");
-    io::print_decimal(1, number as u64);
-    print(b" at ");
-    io::print_decimal(1, entry as u64);
-    print(b"\n");
 }
 
 // Converts a table and prints what comes of it. A heading has half as many numbers as an entry.

@@ -1,9 +1,10 @@
 // Converts a table of the slots of document 01 that are worked by hand, and prints their rows. Of each calendar it gives the period, the distance
 // and the labels of three turns of its row: the turn before instant 0, the row itself and the next turn. "." is an instant with no label.
 
-use calendar::Calendar;
 use conversion::Conversion;
 use conversion::HEADING_LENGTH;
+use printing::print;
+use printing::print_turn;
 
 // Kind, first, second, x, y and z of each entry.
 const ENTRIES: [[i32; 6]; 15] = [
@@ -38,48 +39,6 @@ fn table() -> [i32; 90] {
         i += 1;
     }
     numbers
-}
-
-fn print(text: &[u8]) {
-    io::write_all(1, text);
-}
-
-// |v|. Of a negative v, -1 - v fits where -v may not.
-fn magnitude(v: i64) -> u64 {
-    if v < 0 { (-1 - v) as u64 + 1 } else { v as u64 }
-}
-
-// v in decimal.
-fn print_number(v: i64) {
-    if v < 0 {
-        print(b"-");
-    }
-    io::print_decimal(1, magnitude(v));
-}
-
-fn moved(label: i32, down: u32, up: u32) -> i64 {
-    label as i64 - down as i64 + up as i64
-}
-
-// A cell of a row, with its label moved down and up.
-fn print_cell(cell: i32, down: u32, up: u32) {
-    if cell == Calendar::EMPTY {
-        print(b".");
-    } else {
-        print_number(moved(cell, down, up));
-    }
-}
-
-// One turn of the row of the first n cells, with each label moved down and up.
-fn print_turn(cells: &[i32], n: usize, down: u32, up: u32) {
-    let mut i = 0;
-    while i < n {
-        if i < cells.len() {
-            print(b" ");
-            print_cell(cells[i], down, up);
-        }
-        i += 1;
-    }
 }
 
 // Three turns of the row of a heading.

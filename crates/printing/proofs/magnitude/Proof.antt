@@ -1,4 +1,4 @@
--- `worked::magnitude` meets its contract: of a negative v, -1 - v fits and is not negative.
+-- `printing::magnitude` meets its contract: of a negative v, -1 - v fits and is not negative.
 -- Assumes nothing.
 use native.Mathlib.Omega.{arith}
 use borrow.Author.Needs.{needs}
@@ -9,8 +9,8 @@ use mir.Val.{SFits}
 use mir.Facts.{fits-natAbs}
 use Rattle.integers.proofs.Linear.{ints}
 use Rattle.integers.proofs.Machine.{plain}
-use Rattle.worked.proofs.magnitude.Statement.{statement}
-use Rattle.worked.proofs.magnitude.Tie as tie
+use Rattle.printing.proofs.magnitude.Statement.{statement}
+use Rattle.printing.proofs.magnitude.Tie as tie
 
 less-fits : {v : ℤ} → SFits w64 v → v <ℤ pos 0 → SFits w64 (negsuc 0 -ℤ v)
 less-fits = simp ints (omega arith)

@@ -1,15 +1,15 @@
--- `vectors::print_cells` meets its contract: i stays within n, and what is left of n falls with each turn of the loop.
+-- `printing::print_turn` meets its contract: i stays within n, and what is left of n falls with each turn of the loop.
 -- Assumes nothing.
 use Prim.Native.Nat.{_≤_, _-_}
 use borrow.Author.Needs.{needs}
-use Rattle.vectors.proofs.print_cells.Statement.{statement}
-use Rattle.vectors.proofs.print_cells.Tie as tie
+use Rattle.printing.proofs.print_turn.Statement.{statement}
+use Rattle.printing.proofs.print_turn.Tie as tie
 
 abbrev Inv-loop : tie.InvT-loop
-Inv-loop cells n i₀ t4 t5 i = i ≤ n
+Inv-loop cells n down up i₀ t6 i = i ≤ n
 
 abbrev μ-loop : tie.MeasureT-loop
-μ-loop cells n i₀ t4 t5 i = n - i
+μ-loop cells n down up i₀ t6 i = n - i
 
 loop-holds : tie.Need-loop-holds Inv-loop μ-loop
 loop-holds c = search needs
@@ -38,17 +38,11 @@ loop-less c = search needs
 loop-again : tie.Need-loop-again Inv-loop μ-loop
 loop-again c = search needs
 
-slice-aggregate-print-2 : tie.Need-slice-aggregate-print-2 Inv-loop μ-loop
-slice-aggregate-print-2 c = search needs
-
-print-requires-2 : tie.Need-print-requires-2 Inv-loop μ-loop
-print-requires-2 c κs = search needs
-
 returns : tie.Need-returns Inv-loop μ-loop
 returns c = search needs
 
-pub print-cells-spec : {M : Type 1} → statement M
-print-cells-spec =
+pub print-turn-spec : {M : Type 1} → statement M
+print-turn-spec =
     tie.close
     (tie.spec
     Inv-loop
@@ -62,6 +56,4 @@ print-cells-spec =
     add-i
     loop-less
     loop-again
-    slice-aggregate-print-2
-    print-requires-2
     returns)

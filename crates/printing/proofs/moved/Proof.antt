@@ -1,4 +1,4 @@
--- `worked::moved` meets its contract: a number of 32 bits, less one of 32 bits and with another, fits 64.
+-- `printing::moved` meets its contract: a number of 32 bits, less one of 32 bits and with another, fits 64.
 -- Assumes nothing.
 use Prim.Native.Nat.{ℕ, _<_, _^_}
 use native.Mathlib.Omega.{arith}
@@ -9,8 +9,8 @@ use mir.Facts.{toZ-ofZ}
 use borrow.Author.Needs.{needs}
 use Rattle.integers.proofs.Linear.{ints, _∴_}
 use Rattle.integers.proofs.Machine.{plain, widened}
-use Rattle.worked.proofs.moved.Statement.{statement}
-use Rattle.worked.proofs.moved.Tie as tie
+use Rattle.printing.proofs.moved.Statement.{statement}
+use Rattle.printing.proofs.moved.Tie as tie
 
 abbrev wide : ℤ → ℤ
 wide label = toZ w64 (ofZ w64 (toZ w32 (ofZ w32 label)))
