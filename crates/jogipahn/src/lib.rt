@@ -34,7 +34,7 @@
 //     calendar     Calendar, Refusal                  headings     Heading
 //     conversion   Conversion                         questions    Up, Parted, Figured, Late
 //     floats       Allowance, Figures                 reader       Reader
-// A value that is only handed on, as a refusal within an answer, needs none.
+// A value that is only handed on, as a refusal within an answer, needs none. `crates/caller` is such a program.
 
 // The most entries of a table, the most cells of a pool or a row, and the greatest lateness that may be asked about.
 pub use calendar::ENTRY_LIMIT;
