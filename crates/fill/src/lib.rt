@@ -37,7 +37,7 @@ pub fn fill(
             b,
         ),
         Kind::Alter(by) => fill_alter::fill_alter(by, span, at, period, pool, a, b),
-        Kind::Combine => combining::fill_combine(span, at, period, pool, a, b),
+        Kind::Combine => fill_by_granule::combining::fill_combine(span, at, period, pool, a, b),
         Kind::Anchor => fill_pointwise::fill_pointwise(
             Pointwise::Anchor,
             span,
@@ -47,7 +47,15 @@ pub fn fill(
             a,
             b,
         ),
-        Kind::Select(by) => selecting::fill_select(by, span, at, period, pool, a, b),
+        Kind::Select(by) => fill_by_granule::selecting::fill_select(
+            by,
+            span,
+            at,
+            period,
+            pool,
+            a,
+            b,
+        ),
         Kind::ByLabels(by) => fill_pointwise::fill_pointwise(
             Pointwise::ByLabels(by),
             span,

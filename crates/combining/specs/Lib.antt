@@ -1,3 +1,0 @@
--- The loop of combine.
---     Lying        a granule of b lies in one of a
-pub mod Lying
