@@ -1,7 +1,7 @@
 // The working row of any kind, filled in behind the rows that stand in the pool already.
 
 ghost use Rattle.kinds.specs.Stands.{rowIn};
-ghost use Rattle.fill_shared.specs.Given.{Given};
+ghost use Rattle.fill_shared.specs.Fillable.{Fillable};
 ghost use Rattle.fill_shared.specs.Placed.{Placed, over, Fills};
 use fill_pointwise::Pointwise;
 use fill_shared::Filled;
@@ -20,7 +20,7 @@ pub fn fill(
     a: Operand,
     b: Operand,
 ) -> Filled
-    requires { ⌜ Given kind (rowIn (now pool) a) (rowIn (now pool) b) ⌝ }
+    requires { ⌜ Fillable kind (rowIn (now pool) a) (rowIn (now pool) b) ⌝ }
     requires { ⌜ Placed kind a b span at period (now pool) ⌝ }
     ensures { λ r. ⌜ Fills (over kind (now (pool .entry)) a b) at period (now (pool .entry)) (now (pool .exit)) r ⌝ }
 {

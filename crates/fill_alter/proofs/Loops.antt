@@ -31,10 +31,10 @@ use Rattle.kinds.specs.declared.Kind.the-variants.{Alter}
 use Rattle.fill_shared.specs.declared.Filled.{Filled}
 use Rattle.fill_shared.specs.declared.Filled.the-variants.{Labelled, Unlabelled, OutOfRange}
 use Rattle.fill_shared.specs.Placed.{Fills}
-use Rattle.fill_shared.proofs.Turns.{Lent, rowOf, Turn, turn-written, turn-done, rows-stood}
+use Rattle.fill_shared.proofs.Filling.{Lent, rowOf, Filling, filling-written, filling-done, rows-stood}
 use Rattle.fill_stretches.specs.declared.Reached.{Reached}
 use Rattle.fill_stretches.specs.Stretch.{Stretched, Led}
-use Rattle.fill_stretches.proofs.Turns.{stretch-on}
+use Rattle.fill_stretches.proofs.Stretching.{stretch-on}
 use Rattle.fill_stretches.proofs.Stages.{Stage, stage-led, stage-next}
 use Rattle.fill_alter.proofs.Scans.{Found, both, label-of}
 
@@ -73,7 +73,7 @@ module _ (by : Alteration) (repeat : Repeat) (a b : Lent) (at period : ℕ) (old
   unlabelled-there u e = label-of by (rowOf a old) (rowOf b old) (pos u) none e
 
   -- before the first stretch
-  pub altering-led : (q : Reached) (new : List ℤ) (s : Altered) → Turn (Alter by) a b at period old old false 0 → Led (rowOf a old) at period old q new
+  pub altering-led : (q : Reached) (new : List ℤ) (s : Altered) → Filling (Alter by) a b at period old old false 0 → Led (rowOf a old) at period old q new
       → Alterable by repeat (rowOf a old) (rowOf b old) → Follows by repeat (rowOf a old) (rowOf b old) 0 s → Altering by repeat a b at period old new (s .walk) (s .behind) q
   altering-led q new s h x g f = record {
     labelled = false;
@@ -86,7 +86,7 @@ module _ (by : Alteration) (repeat : Repeat) (a b : Lent) (at period : ℕ) (old
     pub altering-done : period ≤ p .t → Fills (altering by (rowOf a old) (rowOf b old)) at period old new Labelled
     altering-done m =
         let o = altering by (rowOf a old) (rowOf b old) in
-        let d = turn-done (Alter by) a b at period old new (h .labelled) (p .t) (h .stage .turn) m in
+        let d = filling-done (Alter by) a b at period old new (h .labelled) (p .t) (h .stage .filling) m in
         let e = filled-labelled (unlabelled o) (labelsInRange o) (some-labelled by repeat (rowOf a old) (rowOf b old) (h .alterable)) (h .labelled) (d .answer) in
         record { answer = ap (λ (x : Bool). cond x Labelled Unlabelled) (sym e) ∙ d .answer; lengths = d .lengths; before = d .before; row = d .row }
 
@@ -94,8 +94,8 @@ module _ (by : Alteration) (repeat : Repeat) (a b : Lent) (at period : ℕ) (old
       -- the labels of the instants before
       pub written-old : Written by (rowOf a old) (rowOf b old) (take (p .t) (drop at new)) × (length (take (p .t) (drop at new)) ≡ p .t)
       written-old =
-          let w = turn-written (Alter by) a b at period old new (h .labelled) (p .t) (h .stage .turn) m in
-          (rows-stood (Alter by) a b at period old new (h .labelled) (p .t) (h .stage .turn) (λ x y. Written by x y (take (p .t) (drop at new))) (record { at-most = w .0 .at-most; labels = w .0 .labels }), w .1)
+          let w = filling-written (Alter by) a b at period old new (h .labelled) (p .t) (h .stage .filling) m in
+          (rows-stood (Alter by) a b at period old new (h .labelled) (p .t) (h .stage .filling) (λ x y. Written by x y (take (p .t) (drop at new))) (record { at-most = w .0 .at-most; labels = w .0 .labels }), w .1)
 
       -- one of them, as a cell of the pool
       pub written-cell : (u : ℕ) (d : ℤ) → u < p .t → at + u < length new → getD (take (p .t) (drop at new)) u empty ≡ getD new (at + u) d

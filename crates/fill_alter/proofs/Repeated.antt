@@ -22,7 +22,7 @@ use Rattle.sizes.specs.declared.Turn.{Turn}
 use Rattle.sizes.specs.Stored.{Stored, Alterable}
 use Rattle.kinds.specs.declared.Kind.the-variants.{Alter}
 use Rattle.kinds.specs.Operations.{operationOf}
-use Rattle.fill_shared.specs.Given.{Given}
+use Rattle.fill_shared.specs.Fillable.{Fillable}
 
 up-mono : (x y : ℤ) → x ≤ℤ y → up x ≤ up y
 up-mono (pos m) (pos n) h = omega (arith, simp ints at h)
@@ -58,7 +58,7 @@ pub distance-positive : (period distance : ℤ) (cells : List ℤ) → Sound per
 distance-positive period distance cells s = let n = numbers period distance cells s in n .distance-is ∴ n .low ∴ simp ints (omega arith)
 
 module _ (by : Alteration) (p n : ℤ) (k : List ℤ) (q m : ℤ) (l : List ℤ) (span : ℤ)
-    (g : Given (Alter by) (given p n k) (given q m l)) (e : Span by (given p n k) (given q m l) span) where
+    (g : Fillable (Alter by) (given p n k) (given q m l)) (e : Span by (given p n k) (given q m l) span) where
   s : span ≡ pos (spanOf (turn (given p n k)) (turn (given q m l)))
   s = span-is by (given p n k) (given q m l) span e
 

@@ -11,7 +11,7 @@ ghost use Rattle.alter_granules.specs.Given.{Alterable};
 ghost use Rattle.kinds.specs.declared.Kind.the-variants.{Alter};
 ghost use Rattle.kinds.specs.Operations.{operationOf};
 ghost use Rattle.kinds.specs.Stands.{rowIn};
-ghost use Rattle.fill_shared.specs.Given.{Given};
+ghost use Rattle.fill_shared.specs.Fillable.{Fillable};
 ghost use Rattle.fill_shared.specs.Placed.{Placed, over, Fills};
 use alter_granules::Repeat;
 use calendar::Calendar;
@@ -34,7 +34,7 @@ fn repeat_of(
     b_period: i64,
     b_distance: i64,
 ) -> Repeat
-    requires { ⌜ Given (Alter by) (given «a_period» «a_distance» (now «a_cells»)) (given «b_period» «b_distance» (now «b_cells»)) ⌝ }
+    requires { ⌜ Fillable (Alter by) (given «a_period» «a_distance» (now «a_cells»)) (given «b_period» «b_distance» (now «b_cells»)) ⌝ }
     requires { ⌜ span ≡ pos (Size.span (mapOperation turn (operationOf (Alter by) (given «a_period» «a_distance» (now «a_cells»)) (given «b_period» «b_distance» (now «b_cells»))))) ⌝ }
     ensures { λ r. ⌜ Alterable by r (given «a_period» «a_distance» (now («a_cells» .entry))) (given «b_period» «b_distance» (now («b_cells» .entry))) ⌝ }
 {
@@ -63,7 +63,7 @@ pub fn fill_alter(
     a: Operand,
     b: Operand,
 ) -> Filled
-    requires { ⌜ Given (Alter by) (rowIn (now pool) a) (rowIn (now pool) b) ⌝ }
+    requires { ⌜ Fillable (Alter by) (rowIn (now pool) a) (rowIn (now pool) b) ⌝ }
     requires { ⌜ Placed (Alter by) a b span at period (now pool) ⌝ }
     ensures { λ r. ⌜ Fills (over (Alter by) (now (pool .entry)) a b) at period (now (pool .entry)) (now (pool .exit)) r ⌝ }
 {

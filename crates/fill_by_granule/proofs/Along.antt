@@ -20,10 +20,10 @@ use Rattle.cursors.specs.declared.Cursor.{Cursor}
 use Rattle.cursors.specs.Cursor.{cursorAt}
 use Rattle.kinds.specs.declared.Kind.{Kind}
 use Rattle.kinds.specs.Operations.{operationOf}
-use Rattle.fill_shared.proofs.Turns.{Lent, Turn, rowOf}
+use Rattle.fill_shared.proofs.Filling.{Lent, Filling, rowOf}
 use Rattle.fill_stretches.specs.declared.Reached.{Reached}
 use Rattle.fill_stretches.specs.Stretch.{Stretched, Led}
-use Rattle.fill_stretches.proofs.Turns.{stretch-on, stretch-fresh, stretch-one}
+use Rattle.fill_stretches.proofs.Stretching.{stretch-on, stretch-fresh, stretch-one}
 use Rattle.fill_stretches.proofs.Stages.{Stage, stage-led, stage-next}
 
 -- the working row is filled up to p; the cursor of the other row is that of p, and a granule of the row that leads begins there if `fresh`
@@ -36,7 +36,7 @@ pub record Along (k : Kind) (a b : Lent) (lead other : Row) (at period : ℕ) (o
 module _ (k : Kind) (a b : Lent) (lead other : Row) (at period : ℕ) (old : List ℤ)
     (unlabelled : (u : ℕ) → meant lead (pos u) ≡ none → none ≡ result (operationOf k (rowOf a old) (rowOf b old)) (pos u)) where
   -- before the first granule
-  pub along-none : (q : Reached) (new : List ℤ) (cursor : Cursor) → Turn k a b at period old old false 0 → Led lead at period old q new
+  pub along-none : (q : Reached) (new : List ℤ) (cursor : Cursor) → Filling k a b at period old old false 0 → Led lead at period old q new
       → cursor ≡ cursorAt other (pos (q .t)) → Along k a b lead other at period old new q cursor false false
   along-none q new cursor h x e = record {
     stage = stage-led k a b at period old lead unlabelled q new h x;

@@ -20,7 +20,7 @@ use Rattle.granules.proofs.Tests.{true≢false}
 use Rattle.cursors.specs.declared.Cursor.{Cursor}
 use Rattle.cursors.specs.Cursor.{cursorAt}
 use Rattle.kinds.specs.declared.Kind.the-variants.{Combine}
-use Rattle.fill_shared.proofs.Turns.{Lent, Turn, rowOf}
+use Rattle.fill_shared.proofs.Filling.{Lent, Filling, rowOf}
 use Rattle.fill_stretches.specs.declared.Reached.{Reached}
 use Rattle.fill_stretches.specs.Stretch.{Stretched, Led}
 use Rattle.fill_by_granule.proofs.Along.{Along, along-none, along-on, along-next}
@@ -36,7 +36,7 @@ module _ (a b : Lent) (at period : ℕ) (old : List ℤ) where
   unlabelled u e = sym (combine-of (rowOf a old) (rowOf b old) (pos u) none (meant (rowOf a old) (pos u)) e refl)
 
   -- before the first one
-  pub combining-none : (q : Reached) (new : List ℤ) (cursor : Cursor) → Turn Combine a b at period old old false 0 → Led (rowOf b old) at period old q new
+  pub combining-none : (q : Reached) (new : List ℤ) (cursor : Cursor) → Filling Combine a b at period old old false 0 → Led (rowOf b old) at period old q new
       → cursor ≡ cursorAt (rowOf a old) (pos (q .t)) → Combining a b at period old new q cursor false false
   combining-none = along-none Combine a b (rowOf b old) (rowOf a old) at period old unlabelled
 

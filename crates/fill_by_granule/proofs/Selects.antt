@@ -28,7 +28,7 @@ use Rattle.kinds.specs.Operations.{selectionOf}
 use Rattle.select_granules.specs.Memos.{flagOf, Remembers}
 use Rattle.select_granules.specs.Deciding.{Decides}
 use Rattle.kinds.specs.declared.Kind.the-variants.{Select}
-use Rattle.fill_shared.proofs.Turns.{Lent, Turn, rowOf}
+use Rattle.fill_shared.proofs.Filling.{Lent, Filling, rowOf}
 use Rattle.fill_stretches.specs.declared.Reached.{Reached}
 use Rattle.fill_stretches.specs.Stretch.{Stretched, Led}
 use Rattle.fill_by_granule.proofs.Along.{Along, along-none, along-on, along-next}
@@ -62,7 +62,7 @@ module _ (s : Selection) (a b : Lent) (at period : ℕ) (old : List ℤ) where
   unlabelled u e = sym (select-of (selectionOf s) (rowOf a old) (rowOf b old) (pos u) none e)
 
   -- before the first one
-  pub selecting-none : (q : Reached) (new : List ℤ) (cursor : Cursor) (picked : Picked) → Turn (Select s) a b at period old old false 0 → Led (rowOf a old) at period old q new
+  pub selecting-none : (q : Reached) (new : List ℤ) (cursor : Cursor) (picked : Picked) → Filling (Select s) a b at period old old false 0 → Led (rowOf a old) at period old q new
       → cursor ≡ cursorAt (rowOf b old) (pos (q .t)) → picked .known ≡ pos 0 → Selecting s a b at period old new q cursor false picked false
   selecting-none q new cursor picked h x e k = record {
     along = along-none (Select s) a b (rowOf a old) (rowOf b old) at period old unlabelled q new cursor h x e;

@@ -14,7 +14,7 @@ ghost use Rattle.cursors.specs.Cursor.{cursorAt};
 ghost use Rattle.kinds.specs.declared.Kind.the-variants.{Combine};
 ghost use Rattle.kinds.specs.Operations.{operationOf};
 ghost use Rattle.kinds.specs.Stands.{rowIn};
-ghost use Rattle.fill_shared.specs.Given.{Given};
+ghost use Rattle.fill_shared.specs.Fillable.{Fillable};
 ghost use Rattle.fill_shared.specs.Placed.{Placed, over, Fills};
 ghost use Rattle.fill_by_granule.specs.Lying.{liesAt};
 use containment::CursorPair;
@@ -132,7 +132,7 @@ pub fn fill_combine(
     a: Operand,
     b: Operand,
 ) -> Filled
-    requires { ⌜ Given Combine (rowIn (now pool) a) (rowIn (now pool) b) ⌝ }
+    requires { ⌜ Fillable Combine (rowIn (now pool) a) (rowIn (now pool) b) ⌝ }
     requires { ⌜ Placed Combine a b span at period (now pool) ⌝ }
     ensures { λ r. ⌜ Fills (over Combine (now (pool .entry)) a b) at period (now (pool .entry)) (now (pool .exit)) r ⌝ }
 {

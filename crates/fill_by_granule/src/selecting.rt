@@ -7,7 +7,7 @@ ghost use Rattle.calendar.specs.Lists.{only, equal};
 ghost use Rattle.cursors.specs.Found.{found};
 ghost use Rattle.kinds.specs.declared.Kind.the-variants.{Select};
 ghost use Rattle.kinds.specs.Stands.{rowIn};
-ghost use Rattle.fill_shared.specs.Given.{Given};
+ghost use Rattle.fill_shared.specs.Fillable.{Fillable};
 ghost use Rattle.fill_shared.specs.Placed.{Placed, over, Fills};
 use cursors::Found;
 use fill_shared::Filled;
@@ -42,7 +42,7 @@ pub fn fill_select(
     a: Operand,
     b: Operand,
 ) -> Filled
-    requires { ⌜ Given (Select by) (rowIn (now pool) a) (rowIn (now pool) b) ⌝ }
+    requires { ⌜ Fillable (Select by) (rowIn (now pool) a) (rowIn (now pool) b) ⌝ }
     requires { ⌜ Placed (Select by) a b span at period (now pool) ⌝ }
     ensures { λ r. ⌜ Fills (over (Select by) (now (pool .entry)) a b) at period (now (pool .entry)) (now (pool .exit)) r ⌝ }
 {

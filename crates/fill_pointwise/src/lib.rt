@@ -10,7 +10,7 @@ ghost use Rattle.calendar.specs.Questions.{given};
 ghost use Rattle.cursors.specs.Found.{found};
 ghost use Rattle.kinds.specs.Operations.{operationOf};
 ghost use Rattle.kinds.specs.Stands.{rowIn};
-ghost use Rattle.fill_shared.specs.Given.{Given};
+ghost use Rattle.fill_shared.specs.Fillable.{Fillable};
 ghost use Rattle.fill_shared.specs.Placed.{Placed, over, Fills};
 ghost use Rattle.fill_pointwise.specs.Decided.{kindOf, setLabel, decidedLabel, laterLabel};
 ghost use Rattle.fill_pointwise.specs.Scanning.{Scans};
@@ -99,7 +99,7 @@ fn step(
     b_period: i64,
     b_distance: i64,
 ) -> Stepped
-    requires { ⌜ Given (kindOf by) (given «a_period» «a_distance» (now «a_cells»)) (given «b_period» «b_distance» (now «b_cells»)) ⌝ }
+    requires { ⌜ Fillable (kindOf by) (given «a_period» «a_distance» (now «a_cells»)) (given «b_period» «b_distance» (now «b_cells»)) ⌝ }
     requires { ⌜ Scans (given «a_period» «a_distance» (now «a_cells»)) (given «b_period» «b_distance» (now «b_cells»)) t s ⌝ }
     requires { ⌜ t <ℤ pos poolLimit ⌝ }
     ensures label { λ r. ⌜ found (r .label) ≡ result (operationOf (kindOf by) (given «a_period» «a_distance» (now («a_cells» .entry))) (given «b_period» «b_distance» (now («b_cells» .entry)))) t ⌝ }
@@ -127,7 +127,7 @@ pub fn fill_pointwise(
     a: Operand,
     b: Operand,
 ) -> Filled
-    requires { ⌜ Given (kindOf by) (rowIn (now pool) a) (rowIn (now pool) b) ⌝ }
+    requires { ⌜ Fillable (kindOf by) (rowIn (now pool) a) (rowIn (now pool) b) ⌝ }
     requires { ⌜ Placed (kindOf by) a b span at period (now pool) ⌝ }
     ensures { λ r. ⌜ Fills (over (kindOf by) (now (pool .entry)) a b) at period (now (pool .entry)) (now (pool .exit)) r ⌝ }
 {

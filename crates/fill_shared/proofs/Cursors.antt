@@ -16,7 +16,7 @@ use Rattle.cursors.specs.Cursor.{cursorAt}
 use Rattle.cursors.proofs.Numbers.{Numbers, numbers}
 use Rattle.cursors.proofs.Cells.{getD-any}
 use Rattle.cursors.proofs.Cursors.{Bounds, bounds, cursor-of, cursor-moved, cursor-meant}
-use Rattle.fill_shared.proofs.Turns.{Lent, rowOf}
+use Rattle.fill_shared.proofs.Filling.{Lent, rowOf}
 
 abbrev pub cellsOf : Lent → List ℤ → List ℤ
 cellsOf a pool = take (a .end - a .start) (drop (a .start) pool)

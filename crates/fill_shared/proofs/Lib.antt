@@ -3,7 +3,7 @@
 --     Single       a kind with one operand, which it is given twice
 --     Cells        the cells of a pool
 --     Working      the working row as it is filled in
---     Turns        the turns of a loop that fills it in
+--     Filling      what holds in a loop that fills it in, for any kind
 --     Steps        the step of a loop over two operands
 --     Cursors      the cursor of an instant, as a loop over a pool holds it
 --     Lasts        the last label up to an instant
@@ -12,7 +12,7 @@ pub mod Points
 pub mod Single
 pub mod Cells
 pub mod Working
-pub mod Turns
+pub mod Filling
 pub mod Steps
 pub mod Cursors
 pub mod Lasts

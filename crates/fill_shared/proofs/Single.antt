@@ -18,7 +18,7 @@ use Rattle.granules.proofs.Sound.{sound-valid, sound-limits}
 use Rattle.kinds.specs.declared.Kind.{Kind}
 use Rattle.kinds.specs.declared.Kind.the-variants.{Bottom, Group, Shift, Alter, Combine, Anchor, Select, ByLabels, Renumber}
 use Rattle.kinds.specs.Operations.{operationOf, operands}
-use Rattle.fill_shared.specs.Given.{Given}
+use Rattle.fill_shared.specs.Fillable.{Fillable}
 
 -- the span of a row with itself is its period
 own-span : (a : Row) → sound a ≡ true → spanOf (turn a) (turn a) ≤ poolLimit
@@ -27,16 +27,16 @@ own-span a s =
     let p = sound-valid a s .positive .0 in
     le-trans (le-of-dvd p (lcm-least (a .period) (a .period) (a .period) p (dvd-refl (a .period)) (dvd-refl (a .period)))) (sound-limits a s .1)
 
-pub given-twice : (k : Kind) (a b : Row) → operands k ≡ 1 → Given k a b → Given k a a
-given-twice (Group x) a b e g = record { numbers = g .numbers; sounds = (g .sounds .0, g .sounds .0); ready = g .ready; at-most = own-span a (g .sounds .0) }
-given-twice (Shift x) a b e g = record { numbers = g .numbers; sounds = (g .sounds .0, g .sounds .0); ready = g .ready; at-most = own-span a (g .sounds .0) }
-given-twice (Renumber x) a b e g = record { numbers = g .numbers; sounds = (g .sounds .0, g .sounds .0); ready = g .ready; at-most = own-span a (g .sounds .0) }
-given-twice Bottom a b e g = absurd (omega arith)
-given-twice (Alter w) a b e g = absurd (omega arith)
-given-twice Combine a b e g = absurd (omega arith)
-given-twice Anchor a b e g = absurd (omega arith)
-given-twice (Select w) a b e g = absurd (omega arith)
-given-twice (ByLabels w) a b e g = absurd (omega arith)
+pub fillable-twice : (k : Kind) (a b : Row) → operands k ≡ 1 → Fillable k a b → Fillable k a a
+fillable-twice (Group x) a b e g = record { numbers = g .numbers; sounds = (g .sounds .0, g .sounds .0); ready = g .ready; at-most = own-span a (g .sounds .0) }
+fillable-twice (Shift x) a b e g = record { numbers = g .numbers; sounds = (g .sounds .0, g .sounds .0); ready = g .ready; at-most = own-span a (g .sounds .0) }
+fillable-twice (Renumber x) a b e g = record { numbers = g .numbers; sounds = (g .sounds .0, g .sounds .0); ready = g .ready; at-most = own-span a (g .sounds .0) }
+fillable-twice Bottom a b e g = absurd (omega arith)
+fillable-twice (Alter w) a b e g = absurd (omega arith)
+fillable-twice Combine a b e g = absurd (omega arith)
+fillable-twice Anchor a b e g = absurd (omega arith)
+fillable-twice (Select w) a b e g = absurd (omega arith)
+fillable-twice (ByLabels w) a b e g = absurd (omega arith)
 
 -- the operation itself, and its result
 pub operation-over : (k : Kind) (a b : Row) → operands k ≡ 1 → operationOf k a a ≡ operationOf k a b

@@ -14,16 +14,16 @@ use Rattle.calendar.specs.Compute.{result}
 use Rattle.calendar.specs.Limits.{poolLimit}
 use Rattle.kinds.specs.declared.Kind.{Kind}
 use Rattle.kinds.specs.Operations.{operationOf}
-use Rattle.fill_shared.specs.Given.{Given}
-use Rattle.fill_shared.proofs.Turns.{Lent, Turn, rowOf, rows-kept, rows-stood, turn-instant, turn-below, turn-given}
+use Rattle.fill_shared.specs.Fillable.{Fillable}
+use Rattle.fill_shared.proofs.Filling.{Lent, Filling, rowOf, rows-kept, rows-stood, filling-instant, filling-below, still-fillable}
 
-module _ (k : Kind) (a b : Lent) (at period : ℕ) (old new : List ℤ) (labelled : Bool) (t : ℕ) (h : Turn k a b at period old new labelled t) (m : t < period) where
+module _ (k : Kind) (a b : Lent) (at period : ℕ) (old new : List ℤ) (labelled : Bool) (t : ℕ) (h : Filling k a b at period old new labelled t) (m : t < period) where
   pub step-asks : (P : Row → Row → ℤ → Type 0) → P (rowOf a old) (rowOf b old) (pos t)
-      → Given k (rowOf a new) (rowOf b new) × (P (rowOf a new) (rowOf b new) (toZ w64 t) × (toZ w64 t <ℤ pos poolLimit))
+      → Fillable k (rowOf a new) (rowOf b new) × (P (rowOf a new) (rowOf b new) (toZ w64 t) × (toZ w64 t <ℤ pos poolLimit))
   step-asks P p =
-      rw (turn-instant k a b at period old new labelled t h m) (
-        turn-given k a b at period old new labelled t h m,
-        (rows-kept k a b at period old new labelled t h (λ x y. P x y (pos t)) p, turn-below k a b at period old new labelled t h m),
+      rw (filling-instant k a b at period old new labelled t h m) (
+        still-fillable k a b at period old new labelled t h m,
+        (rows-kept k a b at period old new labelled t h (λ x y. P x y (pos t)) p, filling-below k a b at period old new labelled t h m),
       )
 
   pub step-gave : (l : Option ℤ) (Q : Row → Row → ℤ → Type 0)
@@ -31,4 +31,4 @@ module _ (k : Kind) (a b : Lent) (at period : ℕ) (old new : List ℤ) (labelle
       → (l ≡ result (operationOf k (rowOf a old) (rowOf b old)) (pos t)) × Q (rowOf a old) (rowOf b old) (pos (t + 1))
   step-gave l Q e =
       rows-stood k a b at period old new labelled t h (λ x y. (l ≡ result (operationOf k x y) (pos t)) × Q x y (pos t +ℤ pos 1))
-      (rw (turn-instant k a b at period old new labelled t h m) at e)
+      (rw (filling-instant k a b at period old new labelled t h m) at e)

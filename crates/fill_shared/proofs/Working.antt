@@ -29,7 +29,7 @@ use Rattle.granules.proofs.Lists.{all-iff, mem-from, length-from}
 use Rattle.algebra.proofs.Working.{getD-map-from, inRange-iff}
 use Rattle.cursors.proofs.Cells.{label-full}
 use Rattle.fill_shared.specs.declared.Filled.the-variants.{Labelled, Unlabelled, OutOfRange}
-use Rattle.fill_shared.specs.Given.{Written}
+use Rattle.fill_shared.specs.Fillable.{Written}
 use Rattle.fill_shared.specs.Placed.{filledAs}
 
 -- ---- the cells of the working row

@@ -1,5 +1,5 @@
 -- The loops that fill a working row.
---     Given        what a loop is given, and what it has written
+--     Fillable     what a loop is given, and what it has written
 --     Placed       where a working row is filled in, and what its labels are
-pub mod Given
+pub mod Fillable
 pub mod Placed

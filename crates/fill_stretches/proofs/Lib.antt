@@ -1,7 +1,7 @@
 -- The laws of stretches.
 --     Growing      the pool as a stretch is filled, instant by instant
---     Turns        a stretch as turns of a loop that fills a working row; what its end says
+--     Stretching   a stretch of a loop that fills a working row; what its end says
 --     Stages       what holds between two stretches
 pub mod Growing
-pub mod Turns
+pub mod Stretching
 pub mod Stages

@@ -10,7 +10,7 @@ use mir.Val.{ofZ}
 use Rattle.integers.specs.Parts.{up}
 use Rattle.kinds.specs.declared.Operand.{Operand}
 use Rattle.kinds.specs.Stands.{end}
-use Rattle.fill_shared.proofs.Turns.{Lent, lentAs, lentOf}
+use Rattle.fill_shared.proofs.Filling.{Lent, lentAs, lentOf}
 
 -- its period is the number of its cells
 pub period-bits : (a : Operand) (e : ℕ) → pos 0 ≤ℤ a .period → e ≡ end a → ofZ w64 (a .period) ≡ e - a .start

@@ -30,7 +30,7 @@ use Rattle.kinds.specs.Operations.{operationOf}
 use Rattle.fill_shared.specs.declared.Filled.the-variants.{OutOfRange}
 use Rattle.fill_shared.proofs.Points.{label-small}
 use Rattle.fill_shared.specs.Placed.{Fills}
-use Rattle.fill_shared.proofs.Turns.{Lent, Turn, rowOf, turn-more, turn-out, a-kept, turn-ends}
+use Rattle.fill_shared.proofs.Filling.{Lent, Filling, rowOf, filling-more, filling-out, a-kept, filling-ends}
 use Rattle.fill_shared.proofs.Cursors.{Cell, cells-are, cell-on, label-of-cell}
 use Rattle.fill_unary.specs.Grouped.{labelAt, groupAt, Small, grouped, Grouped}
 use Rattle.fill_unary.proofs.Groups.{group-of}
@@ -83,18 +83,18 @@ whole P m k t period e f h =
     (decided (ltb-iff k m))
 
 pub has-turn : (x : ℤ) (a : Lent) (at period : ℕ) (old new : List ℤ) (labelled : Bool) (t : ℕ) (z : ℤ)
-    → Turn (Group x) a a at period old new labelled t → Cell a old (a .start) z (pos t) → t < period → t + (a .end - a .start) ≤ period
+    → Filling (Group x) a a at period old new labelled t → Cell a old (a .start) z (pos t) → t < period → t + (a .end - a .start) ≤ period
 unfolding floorMod
 has-turn x a at period old new labelled t z h c m =
     let r = rowOf a old in
     let P = up (a .period) in
-    let e : P ≡ a .end - a .start = cells-are a old (h .lends .is-given .sounds .0) (omega (arith, h .lends .a-end, h .lends .room)) in
+    let e : P ≡ a .end - a .start = cells-are a old (h .lends .is-fillable .sounds .0) (omega (arith, h .lends .a-end, h .lends .room)) in
     let i = cursor-at r _ (pos t) (c .is) .index-is in
     let k : t % P ≡ 0 = i ∴ simp ints (omega arith) in
     rw e at (whole P (up x / gcd (up x) (r .distance)) (t / P) t period (h .lends .is-period ∙ group-period (up x) r) (omega (arith, k, div-add-mod t P)) m)
 
 module _ (x : ℤ) (a : Lent) (at period : ℕ) (old new : List ℤ) (labelled : Bool) (t : ℕ) (z : ℤ)
-    (h : Turn (Group x) a a at period old new labelled t) (c : Cell a old (a .start) z (pos t)) (room : t + (a .end - a .start) ≤ period) where
+    (h : Filling (Group x) a a at period old new labelled t) (c : Cell a old (a .start) z (pos t)) (room : t + (a .end - a .start) ≤ period) where
   abbrev row : Row
   row = rowOf a old
 
@@ -102,7 +102,7 @@ module _ (x : ℤ) (a : Lent) (at period : ℕ) (old new : List ℤ) (labelled :
   o = operationOf (Group x) row row
 
   s : sound row ≡ true
-  s = h .lends .is-given .sounds .0
+  s = h .lends .is-fillable .sounds .0
 
   in-pool : a .end ≤ length old
   in-pool = omega (arith, h .lends .a-end, h .lends .room)
@@ -112,7 +112,7 @@ module _ (x : ℤ) (a : Lent) (at period : ℕ) (old new : List ℤ) (labelled :
     label-is : meant row (pos (t + i)) ≡ labelAt z (a .start) new i
     label-is =
         let d : Cell a old (a .start + i) z (pos (t + i)) = cell-on a old s in-pool (a .start) z (pos t) c i (omega arith) in
-        label-of-cell a old s in-pool (a .start + i) z (pos (t + i)) d new (turn-ends _ _ _ _ _ _ _ _ _ h .0) (a-kept _ _ _ _ _ _ _ _ _ h) empty
+        label-of-cell a old s in-pool (a .start + i) z (pos (t + i)) d new (filling-ends _ _ _ _ _ _ _ _ _ h .0) (a-kept _ _ _ _ _ _ _ _ _ h) empty
 
     pub group-is : groupAt x z (a .start) new i ≡ result o (pos (t + i))
     group-is = sym (group-of (up x) row (pos (t + i)) _ label-is)
@@ -123,26 +123,26 @@ module _ (x : ℤ) (a : Lent) (at period : ℕ) (old new : List ℤ) (labelled :
       label-small (a .period) (a .distance) (row .cells) s (pos (t + i)) j (simp ints (omega arith)) (simp ints (omega arith)) (label-is i m ∙ e)
 
   turn-on : (n : ℕ) → n ≤ a .end - a .start → ((i : ℕ) → i < n → ifLabel (groupAt x z (a .start) new i) inRange ≡ true)
-      → (f : Bool) × Turn (Group x) a a at period old (grouped x z (a .start) (at + t) new n) f (t + n)
+      → (f : Bool) × Filling (Group x) a a at period old (grouped x z (a .start) (at + t) new n) f (t + n)
   unfolding grouped
-  turn-on zero m w = (labelled, subst (λ (k : ℕ). Turn (Group x) a a at period old new labelled k) (omega arith) h)
+  turn-on zero m w = (labelled, subst (λ (k : ℕ). Filling (Group x) a a at period old new labelled k) (omega arith) h)
   turn-on (suc n) m w =
       let d = turn-on n (omega arith) (λ i p. w i (omega arith)) in
       let l = groupAt x z (a .start) new n in
       let f = isSome l || d .0 in (
         f,
-        subst (λ (k : ℕ). Turn (Group x) a a at period old (grouped x z (a .start) (at + t) new (suc n)) f k) (omega arith)
-            (turn-more _ _ _ _ _ _ _ _ _ (d .1) (omega arith) l (group-is n (omega arith)) _ _ (w n (omega arith)) (ap (λ (k : ℕ). set (grouped x z (a .start) (at + t) new n) k (cellOf l)) (omega arith)) refl),
+        subst (λ (k : ℕ). Filling (Group x) a a at period old (grouped x z (a .start) (at + t) new (suc n)) f k) (omega arith)
+            (filling-more _ _ _ _ _ _ _ _ _ (d .1) (omega arith) l (group-is n (omega arith)) _ _ (w n (omega arith)) (ap (λ (k : ℕ). set (grouped x z (a .start) (at + t) new n) k (cellOf l)) (omega arith)) refl),
       )
 
   -- n of its cells
-  turned-cells : (n : ℕ) → n ≤ a .end - a .start → (pool : List ℤ) → Grouped x z (a .start) (at + t) new pool n → (f : Bool) × Turn (Group x) a a at period old pool f (t + n)
+  turned-cells : (n : ℕ) → n ≤ a .end - a .start → (pool : List ℤ) → Grouped x z (a .start) (at + t) new pool n → (f : Bool) × Filling (Group x) a a at period old pool f (t + n)
   turned-cells n m pool g =
       let d = turn-on n m (g .within) in
-      (d .0, subst (λ (l : List ℤ). Turn (Group x) a a at period old l (d .0) (t + n)) (sym (g .is-new)) (d .1))
+      (d .0, subst (λ (l : List ℤ). Filling (Group x) a a at period old l (d .0) (t + n)) (sym (g .is-new)) (d .1))
 
   -- all of them
-  pub turned : (pool : List ℤ) → Grouped x z (a .start) (at + t) new pool (a .end - a .start) → (f : Bool) × Turn (Group x) a a at period old pool f (t + (a .end - a .start))
+  pub turned : (pool : List ℤ) → Grouped x z (a .start) (at + t) new pool (a .end - a .start) → (f : Bool) × Filling (Group x) a a at period old pool f (t + (a .end - a .start))
   turned pool g = turned-cells (a .end - a .start) (omega arith) pool g
 
   -- the group of the cell behind them is outside the limits
@@ -150,4 +150,4 @@ module _ (x : ℤ) (a : Lent) (at period : ℕ) (old new : List ℤ) (labelled :
       → (pool : List ℤ) → Grouped x z (a .start) (at + t) new pool i → Fills o at period old pool OutOfRange
   turn-outside i m j e r pool g =
       let d = turned-cells i (omega arith) pool g in
-      turn-out _ _ _ _ _ _ _ _ _ (d .1) (omega arith) (some j) (e ∙ group-is i m) pool refl r
+      filling-out _ _ _ _ _ _ _ _ _ (d .1) (omega arith) (some j) (e ∙ group-is i m) pool refl r

@@ -13,7 +13,7 @@ ghost use Rattle.calendar.specs.Limits.{million, inRange, poolLimit};
 ghost use Rattle.cursors.specs.Found.{Within};
 ghost use Rattle.kinds.specs.declared.Kind.the-variants.{Group};
 ghost use Rattle.kinds.specs.Stands.{rowIn};
-ghost use Rattle.fill_shared.specs.Given.{Given};
+ghost use Rattle.fill_shared.specs.Fillable.{Fillable};
 ghost use Rattle.fill_shared.specs.Placed.{Placed, over, Fills};
 ghost use Rattle.fill_unary.specs.Grouped.{Knows, Small, Grouped, groupAt};
 use calendar::Calendar;
@@ -89,7 +89,7 @@ pub fn fill_group(
     a: Operand,
     b: Operand,
 ) -> Filled
-    requires { ⌜ Given (Group x) (rowIn (now pool) a) (rowIn (now pool) b) ⌝ }
+    requires { ⌜ Fillable (Group x) (rowIn (now pool) a) (rowIn (now pool) b) ⌝ }
     requires { ⌜ Placed (Group x) a b span at period (now pool) ⌝ }
     ensures { λ r. ⌜ Fills (over (Group x) (now (pool .entry)) a b) at period (now (pool .entry)) (now (pool .exit)) r ⌝ }
 {

@@ -9,7 +9,7 @@ ghost use Rattle.calendar.specs.Questions.{given};
 ghost use Rattle.cursors.specs.Found.{Sound};
 ghost use Rattle.kinds.specs.declared.Kind.the-variants.{Renumber};
 ghost use Rattle.kinds.specs.Stands.{rowIn};
-ghost use Rattle.fill_shared.specs.Given.{Given};
+ghost use Rattle.fill_shared.specs.Fillable.{Fillable};
 ghost use Rattle.fill_shared.specs.Placed.{Placed, over, Fills};
 use calendar::Calendar;
 use fill_shared::Filled;
@@ -44,7 +44,7 @@ fn labels_below(x: i64, last: i64, a_cells: &[i32], a_period: i64, a_distance: i
 
 // The number of the last label before the instant 0, which is `last`: 0 less the labels above it and below x, by whole turns and the rest.
 pub fn number_of(x: i64, last: i64, a_cells: &[i32], a_period: i64, a_distance: i64) -> i64
-    requires { ⌜ Given (Renumber x) (given «a_period» «a_distance» (now «a_cells»)) (given «a_period» «a_distance» (now «a_cells»)) ⌝ }
+    requires { ⌜ Fillable (Renumber x) (given «a_period» «a_distance» (now «a_cells»)) (given «a_period» «a_distance» (now «a_cells»)) ⌝ }
     requires { ⌜ last ≡ anchored (given «a_period» «a_distance» (now «a_cells»)) (negsuc 0) ⌝ }
     ensures { λ r. ⌜ r ≡ renumbered (given «a_period» «a_distance» (now («a_cells» .entry))) x last ⌝ }
 {
@@ -67,7 +67,7 @@ pub fn fill_renumber(
     a: Operand,
     b: Operand,
 ) -> Filled
-    requires { ⌜ Given (Renumber x) (rowIn (now pool) a) (rowIn (now pool) b) ⌝ }
+    requires { ⌜ Fillable (Renumber x) (rowIn (now pool) a) (rowIn (now pool) b) ⌝ }
     requires { ⌜ Placed (Renumber x) a b span at period (now pool) ⌝ }
     ensures { λ r. ⌜ Fills (over (Renumber x) (now (pool .entry)) a b) at period (now (pool .entry)) (now (pool .exit)) r ⌝ }
 {

@@ -11,7 +11,7 @@ ghost use Rattle.calendar.specs.Limits.{inRange};
 ghost use Rattle.cursors.specs.Found.{Within};
 ghost use Rattle.kinds.specs.declared.Kind.the-variants.{Shift};
 ghost use Rattle.kinds.specs.Stands.{rowIn};
-ghost use Rattle.fill_shared.specs.Given.{Given};
+ghost use Rattle.fill_shared.specs.Fillable.{Fillable};
 ghost use Rattle.fill_shared.specs.Placed.{Placed, over, Fills};
 use calendar::Calendar;
 use fill_shared::Filled;
@@ -51,7 +51,7 @@ pub fn fill_shift(
     a: Operand,
     b: Operand,
 ) -> Filled
-    requires { ⌜ Given (Shift x) (rowIn (now pool) a) (rowIn (now pool) b) ⌝ }
+    requires { ⌜ Fillable (Shift x) (rowIn (now pool) a) (rowIn (now pool) b) ⌝ }
     requires { ⌜ Placed (Shift x) a b span at period (now pool) ⌝ }
     ensures { λ r. ⌜ Fills (over (Shift x) (now (pool .entry)) a b) at period (now (pool .entry)) (now (pool .exit)) r ⌝ }
 {

@@ -32,7 +32,7 @@ use Rattle.operand_checks.specs.Admission.{admission}
 use Rattle.kinds.specs.declared.Kind.{Kind}
 use Rattle.kinds.specs.declared.Operand.{Operand}
 use Rattle.kinds.specs.Stands.{rowIn}
-use Rattle.fill_shared.specs.Given.{Given}
+use Rattle.fill_shared.specs.Fillable.{Fillable}
 use Rattle.fill_shared.specs.Placed.{Placed, over, filledAs}
 use Rattle.fill_shared.specs.declared.Filled.{Filled}
 use Rattle.fill_shared.specs.declared.Filled.the-variants.{Labelled}
@@ -78,7 +78,7 @@ module _ (kind : Kind) (x : Extent) (a b : Operand) (k used : ℕ) (headings : L
 
   -- ---- what filling in asks
 
-  pub is-given : Given kind (rowIn pool a) (rowIn pool b)
+  pub is-given : Fillable kind (rowIn pool a) (rowIn pool b)
   is-given = record {
     numbers = e .numbers;
     sounds = e .sounds;

@@ -12,17 +12,17 @@ use Rattle.kinds.specs.declared.Kind.the-variants.{Group, Shift, Renumber}
 use Rattle.kinds.specs.Operations.{operationOf}
 use Rattle.kinds.specs.Stands.{rowIn}
 use Rattle.fill_shared.specs.declared.Filled.{Filled}
-use Rattle.fill_shared.specs.Given.{Given}
+use Rattle.fill_shared.specs.Fillable.{Fillable}
 use Rattle.fill_shared.specs.Placed.{Placed, Fills}
 use Rattle.fill.proofs.fill.Statement.{statement}
 use Rattle.fill.proofs.fill.Tie as tie
 
 -- what the loop of the kind that the match found is given, and what it ensures
 module _ (s : tie.Start) (k : Kind) (e : s .args .kind ≡ k) where
-  asked : Given k (rowIn (s .args .pool .now) (s .args .a)) (rowIn (s .args .pool .now) (s .args .b)) × Placed k (s .args .a) (s .args .b) (toZ w64 (ofZ w64 (s .args .span))) (s .args .at) (s .args .period) (s .args .pool .now)
+  asked : Fillable k (rowIn (s .args .pool .now) (s .args .a)) (rowIn (s .args .pool .now) (s .args .b)) × Placed k (s .args .a) (s .args .b) (toZ w64 (ofZ w64 (s .args .span))) (s .args .at) (s .args .period) (s .args .pool .now)
   asked =
       let p = s .args .pool .now in
-      rw (toZ-ofZ (s .fits .span)) (subst (λ (m : Kind). Given m (rowIn p (s .args .a)) (rowIn p (s .args .b)) × Placed m (s .args .a) (s .args .b) (s .args .span) (s .args .at) (s .args .period) p) e (s .pre))
+      rw (toZ-ofZ (s .fits .span)) (subst (λ (m : Kind). Fillable m (rowIn p (s .args .a)) (rowIn p (s .args .b)) × Placed m (s .args .a) (s .args .b) (s .args .span) (s .args .at) (s .args .period) p) e (s .pre))
 
   filled : (new : List ℤ) (r : Filled) → let p = s .args .pool .now in
       Fills (operationOf k (rowIn p (s .args .a)) (rowIn p (s .args .b))) (s .args .at) (s .args .period) p new r

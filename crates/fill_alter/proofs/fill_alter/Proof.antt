@@ -17,7 +17,7 @@ use mir.Facts.{toZ-ofZ}
 use mir.Syntax.{w64}
 use mir.Val.{toZ}
 use Rattle.calendar.specs.Limits.{inRange}
-use Rattle.fill_shared.proofs.Turns.{turn-out}
+use Rattle.fill_shared.proofs.Filling.{filling-out}
 use Rattle.fill_shared.proofs.Working.{range-fits}
 use Rattle.fill_stretches.specs.Stretch.{Follows, Stretched}
 use Rattle.fill_stretches.proofs.Stages.{room-a}
@@ -77,7 +77,7 @@ returns c =
     let r = read-of (k .before) in
     let e =
     found-label (by l) (rep l) (a-in l x) (b-in l x) (l .loop .reached .t) (l .loop .walk) (l .loop .behind) (label r) (h .alterable) (h .follows) (label-is r x h) (k .if2 .walk) (k .if2 .behind) (number k) (high k) (found-either k x h) in
-    as-filled (base l) _ _ (turn-out _ _ _ _ _ _ _ _ _ (h .stage .turn) (inside (in-of r)) (some (number k)) e _ refl (sym (in-range-is (c .before)) ∙ not-true _ (c .if3 .taken)))
+    as-filled (base l) _ _ (filling-out _ _ _ _ _ _ _ _ _ (h .stage .filling) (inside (in-of r)) (some (number k)) e _ refl (sym (in-range-is (c .before)) ∙ not-true _ (c .if3 .taken)))
 
 -- ---- its stretch
 
@@ -100,7 +100,7 @@ fill-stretch-requires c κs =
     let k = base l in
     let x = before l in
     let h = holds l in
-    (room-a _ (A k) (B k) _ _ x _ _ _ (h .stage .turn) (a-sound k), kept l x h (λ y z. Follows y (entry k .args .period) (l .loop .reached)) (h .stage .follows))
+    (room-a _ (A k) (B k) _ _ x _ _ _ (h .stage .filling) (a-sound k), kept l x h (λ y z. Follows y (entry k .args .period) (l .loop .reached)) (h .stage .follows))
 
 -- the stretch is filled
 abbrev Filled : Type 0

@@ -20,7 +20,7 @@ use Rattle.kinds.specs.Stands.{rowIn}
 use Rattle.fill_shared.specs.declared.Filled.{Filled}
 use Rattle.fill_shared.proofs.Cells.{lent-is}
 use Rattle.fill_shared.specs.Placed.{Fills}
-use Rattle.fill_shared.proofs.Turns.{Lent, Turn, lentAs, lentOf, rowOf, first-two, fills-two, turn-length, turn-ends, turn-index, turn-more, turn-out, turn-done}
+use Rattle.fill_shared.proofs.Filling.{Lent, Filling, lentAs, lentOf, rowOf, first-two, fills-two, filling-length, filling-ends, filling-index, filling-more, filling-out, filling-done}
 use Rattle.fill_pointwise.specs.Decided.{kindOf}
 use Rattle.fill_pointwise.specs.Scanning.{Scans}
 use Rattle.fill_pointwise.proofs.Labels.{sound-both}
@@ -32,7 +32,7 @@ abbrev Inv-loop : tie.InvT-loop
 Inv-loop by span at period pool₀ a-start a-end a-period a-distance b-start b-end b-period b-distance last s₀ labelled₀ t₀ pool s labelled t =
     let a = lentAs a-start a-end a-period a-distance in
     let b = lentAs b-start b-end b-period b-distance in
-    Turn (kindOf by) a b at period pool₀ pool labelled t × Scans (rowOf a pool₀) (rowOf b pool₀) (pos t) s
+    Filling (kindOf by) a b at period pool₀ pool labelled t × Scans (rowOf a pool₀) (rowOf b pool₀) (pos t) s
 
 abbrev μ-loop : tie.MeasureT-loop
 μ-loop by span at period pool₀ a-start a-end a-period a-distance b-start b-end b-period b-distance last s₀ labelled₀ t₀ pool s labelled t = period - t
@@ -63,13 +63,13 @@ a-is c = lent-is (entry c .args .a) _ _ (c .before .before .before .before .befo
 b-is : (c : Told) → let s = entry c in rowOf (b-lent c) (s .args .pool .now) ≡ rowIn (s .args .pool .now) (s .args .b)
 b-is c = lent-is (entry c .args .b) _ _ (c .before .before .end-of2 .ensures) (sfits-of (c .before .struct-told3 .given .1 .0 .1)) (sfits-of (c .struct-told4 .given .1 .1 .0 .1))
 
-first : (c : Told) → let s = entry c in Turn (kindOf (s .args .by)) (a-lent c) (b-lent c) (s .args .at) (s .args .period) (s .args .pool .now) (s .args .pool .now) false 0
+first : (c : Told) → let s = entry c in Filling (kindOf (s .args .by)) (a-lent c) (b-lent c) (s .args .at) (s .args .period) (s .args .pool .now) (s .args .pool .now) false 0
 first c =
     let s = entry c in
     first-two _ _ refl (s .args .a) (s .args .b) _ _ _ _ _ (c .before .before .before .before .before .end-of .ensures) (a-is c) _ (c .before .before .end-of2 .ensures) (b-is c) (s .pre .0) (s .pre .1)
 
 sounds : (c : Told) → let p = entry c .args .pool .now in (sound (rowOf (a-lent c) p) ≡ true) × (sound (rowOf (b-lent c) p) ≡ true)
-sounds c = sound-both (entry c .args .by) _ _ (first c .lends .is-given .sounds)
+sounds c = sound-both (entry c .args .by) _ _ (first c .lends .is-fillable .sounds)
 
 -- what the loop ensures, over the operands
 as-filled : (c : Told) (new : List ℤ) (r : Filled) → let s = entry c in
@@ -91,7 +91,7 @@ part-cursor-at-start : tie.Need-part-cursor-at-start Inv-loop μ-loop
 part-cursor-at-start c = first (c .before) .lends .a-start
 
 part-cursor-at-end : tie.Need-part-cursor-at-end Inv-loop μ-loop
-part-cursor-at-end c = turn-ends _ _ _ _ _ _ _ _ _ (first (c .before)) .0
+part-cursor-at-end c = filling-ends _ _ _ _ _ _ _ _ _ (first (c .before)) .0
 
 cursor-at-requires : tie.Need-cursor-at-requires Inv-loop μ-loop
 cursor-at-requires c κs = (sounds (c .before .before) .0, simp ints (omega arith))
@@ -106,7 +106,7 @@ part-cursor-at-start-2 : tie.Need-part-cursor-at-start-2 Inv-loop μ-loop
 part-cursor-at-start-2 c = first (c .before .before .before .before) .lends .b-start
 
 part-cursor-at-end-2 : tie.Need-part-cursor-at-end-2 Inv-loop μ-loop
-part-cursor-at-end-2 c = turn-ends _ _ _ _ _ _ _ _ _ (first (c .before .before .before .before)) .1
+part-cursor-at-end-2 c = filling-ends _ _ _ _ _ _ _ _ _ (first (c .before .before .before .before)) .1
 
 cursor-at-requires-2 : tie.Need-cursor-at-requires-2 Inv-loop μ-loop
 cursor-at-requires-2 c κs = (sounds (c .before .before .before .before .before) .1, simp ints (omega arith))
@@ -121,7 +121,7 @@ part-last-before-start : tie.Need-part-last-before-start Inv-loop μ-loop
 part-last-before-start c = first (c .before .before .before .before .before .before .before) .lends .b-start
 
 part-last-before-end : tie.Need-part-last-before-end Inv-loop μ-loop
-part-last-before-end c = turn-ends _ _ _ _ _ _ _ _ _ (first (c .before .before .before .before .before .before .before)) .1
+part-last-before-end c = filling-ends _ _ _ _ _ _ _ _ _ (first (c .before .before .before .before .before .before .before)) .1
 
 last-before-requires : tie.Need-last-before-requires Inv-loop μ-loop
 last-before-requires c κs = sounds (c .before .before .before .before .before .before .before .before) .1
@@ -143,13 +143,13 @@ abbrev At-loop : Type 0
 At-loop = tie.At-loop Inv-loop μ-loop
 
 index : (c : tie.In-loop Inv-loop μ-loop) → let l = c .before in (entry (told (l .before)) .args .at + l .loop .t < length (l .loop .pool)) × (length (l .loop .pool) ≤ poolLimit)
-index c = turn-index _ _ _ _ _ _ _ _ _ (c .before .loop .inv .0) (c .loop-test .taken)
+index c = filling-index _ _ _ _ _ _ _ _ _ (c .before .loop .inv .0) (c .loop-test .taken)
 
 a-end : (l : At-loop) → a-lent (told (l .before)) .end ≤ length (l .loop .pool)
-a-end l = turn-ends _ _ _ _ _ _ _ _ _ (l .loop .inv .0) .0
+a-end l = filling-ends _ _ _ _ _ _ _ _ _ (l .loop .inv .0) .0
 
 b-end : (l : At-loop) → b-lent (told (l .before)) .end ≤ length (l .loop .pool)
-b-end l = turn-ends _ _ _ _ _ _ _ _ _ (l .loop .inv .0) .1
+b-end l = filling-ends _ _ _ _ _ _ _ _ _ (l .loop .inv .0) .1
 
 cast-step : tie.Need-cast-step Inv-loop μ-loop
 cast-step c = let h = index c in omega arith
@@ -203,7 +203,7 @@ store-requires : tie.Need-store-requires Inv-loop μ-loop
 store-requires c κs = index (c .before .before .before .before .before) .0
 
 same-length : tie.Need-same-length Inv-loop μ-loop
-same-length c = c .before .before .store .ensures .1 .0 ∙ turn-length _ _ _ _ _ _ _ _ _ (c .before .before .before .before .before .before .before .before .before .loop .inv .0)
+same-length c = c .before .before .store .ensures .1 .0 ∙ filling-length _ _ _ _ _ _ _ _ _ (c .before .before .before .before .before .before .before .before .before .loop .inv .0)
 
 returns : tie.Need-returns Inv-loop μ-loop
 returns c =
@@ -211,7 +211,7 @@ returns c =
     let x = n .before .before in
     let i = x .before .before .before .before in
     as-filled (told (i .before .before)) _ _
-    (turn-out _ _ _ _ _ _ _ _ _ (i .before .loop .inv .0) (i .loop-test .taken) _ (stepped x .0) _ (n .store .ensures .1 .1 .1 (not-true _ (c .if1 .taken))) (sym (n .store .ensures .0) ∙ not-true _ (c .if1 .taken)))
+    (filling-out _ _ _ _ _ _ _ _ _ (i .before .loop .inv .0) (i .loop-test .taken) _ (stepped x .0) _ (n .store .ensures .1 .1 .1 (not-true _ (c .if1 .taken))) (sym (n .store .ensures .0) ∙ not-true _ (c .if1 .taken)))
 
 any-requires : tie.Need-any-requires Inv-loop μ-loop
 any-requires c κs = tt
@@ -229,7 +229,7 @@ loop-again c =
     let x = n .before .before in
     let i = x .before .before .before .before in
     let r = not-false _ (e .if1 .left) in
-    (turn-more _ _ _ _ _ _ _ _ _ (i .before .loop .inv .0) (i .loop-test .taken) _ (stepped x .0) _ _ (sym (n .store .ensures .0) ∙ r) (n .store .ensures .1 .1 .0 r) (c .before .any .ensures), stepped x .1)
+    (filling-more _ _ _ _ _ _ _ _ _ (i .before .loop .inv .0) (i .loop-test .taken) _ (stepped x .0) _ _ (sym (n .store .ensures .0) ∙ r) (n .store .ensures .1 .1 .0 r) (c .before .any .ensures), stepped x .1)
 
 -- ---- the end
 
@@ -237,12 +237,12 @@ outcome-requires : tie.Need-outcome-requires Inv-loop μ-loop
 outcome-requires c κs = tt
 
 same-length-2 : tie.Need-same-length-2 Inv-loop μ-loop
-same-length-2 c = turn-length _ _ _ _ _ _ _ _ _ (c .before .before .loop .inv .0)
+same-length-2 c = filling-length _ _ _ _ _ _ _ _ _ (c .before .before .loop .inv .0)
 
 returns-2 : tie.Need-returns-2 Inv-loop μ-loop
 returns-2 c =
     let l = c .before .before in
-    as-filled (told (l .before)) _ _ (rw (c .outcome .ensures) (turn-done _ _ _ _ _ _ _ _ _ (l .loop .inv .0) (c .before .loop-test .left)))
+    as-filled (told (l .before)) _ _ (rw (c .outcome .ensures) (filling-done _ _ _ _ _ _ _ _ _ (l .loop .inv .0) (c .before .loop-test .left)))
 
 pub fill-pointwise-spec : {M : Type 1} → statement M
 fill-pointwise-spec =

@@ -20,10 +20,10 @@ use Rattle.kinds.specs.declared.Kind.the-variants.{Alter}
 use Rattle.kinds.specs.Operations.{operationOf}
 use Rattle.kinds.specs.Stands.{rowIn}
 use Rattle.fill_shared.specs.declared.Filled.{Filled}
-use Rattle.fill_shared.specs.Given.{Given}
+use Rattle.fill_shared.specs.Fillable.{Fillable}
 use Rattle.fill_shared.proofs.Cells.{lent-is, same-rows}
 use Rattle.fill_shared.specs.Placed.{Fills}
-use Rattle.fill_shared.proofs.Turns.{Lent, lentAs, lentOf, rowOf, Turn, first-two, fills-two}
+use Rattle.fill_shared.proofs.Filling.{Lent, lentAs, lentOf, rowOf, Filling, first-two, fills-two}
 use Rattle.fill_stretches.proofs.Stages.{room-a}
 use Rattle.fill_alter.proofs.Repeated.{Span}
 use Rattle.fill_alter.proofs.Loops.{Altering, altering-led}
@@ -79,16 +79,16 @@ b-is : (c : Told) → b-row c ≡ rowIn (old c) (entry c .args .b)
 b-is c = lent-is (entry c .args .b) _ _ (c .before .before .end-of2 .ensures) (sfits-of (c .before .struct-told3 .given .1 .0 .1)) (sfits-of (c .struct-told4 .given .1 .1 .0 .1))
 
 -- what holds before the first instant
-first : (c : Told) → let s = entry c in Turn (Alter (by c)) (A c) (B c) (s .args .at) (s .args .period) (old c) (old c) false 0
+first : (c : Told) → let s = entry c in Filling (Alter (by c)) (A c) (B c) (s .args .at) (s .args .period) (old c) (old c) false 0
 first c =
     let s = entry c in
     first-two _ _ refl (s .args .a) (s .args .b) _ _ _ _ _ (c .before .before .before .before .before .end-of .ensures) (a-is c) _ (c .before .before .end-of2 .ensures) (b-is c) (s .pre .0) (s .pre .1)
 
 pub a-sound : (c : Told) → sound (a-row c) ≡ true
-a-sound c = first c .lends .is-given .sounds .0
+a-sound c = first c .lends .is-fillable .sounds .0
 
 pub b-sound : (c : Told) → sound (b-row c) ≡ true
-b-sound c = first c .lends .is-given .sounds .1
+b-sound c = first c .lends .is-fillable .sounds .1
 
 -- what the loop ensures, over the operands
 pub as-filled : (c : Told) (new : List ℤ) (r : Filled) → let s = entry c in Fills (operationOf (Alter (by c)) (a-row c) (b-row c)) (s .args .at) (s .args .period) (old c) new r
@@ -137,11 +137,11 @@ pub part-repeat-of-end-2 : tie.Need-part-repeat-of-end-2 Inv-loop μ-loop
 part-repeat-of-end-2 c = b-fits (c .before .before) .1
 
 -- what `repeat_of` is given
-given-span : (c : Told) → Given (Alter (by c)) (a-row c) (b-row c) × Span (by c) (a-row c) (b-row c) (toZ w64 (ofZ w64 (entry c .args .span)))
+given-span : (c : Told) → Fillable (Alter (by c)) (a-row c) (b-row c) × Span (by c) (a-row c) (b-row c) (toZ w64 (ofZ w64 (entry c .args .span)))
 given-span c =
     let s = entry c in
     let e = toZ-ofZ (s .fits .span) ∙ s .pre .1 .is-span in
-    same-rows (λ x y. Given (Alter (by c)) x y × Span (by c) x y (toZ w64 (ofZ w64 (s .args .span)))) (sym (a-is c)) (sym (b-is c)) (s .pre .0, e)
+    same-rows (λ x y. Fillable (Alter (by c)) x y × Span (by c) x y (toZ w64 (ofZ w64 (s .args .span)))) (sym (a-is c)) (sym (b-is c)) (s .pre .0, e)
 
 pub repeat-of-requires : tie.Need-repeat-of-requires Inv-loop μ-loop
 repeat-of-requires c κs = given-span (c .before .before .before)

@@ -18,7 +18,7 @@ use Rattle.cursors.specs.Cursor.{cursorAt, Shown}
 use Rattle.kinds.specs.declared.Alteration.{Alteration}
 use Rattle.alter_granules.specs.declared.Repeat.{Repeat}
 use Rattle.fill_shared.proofs.Points.{label-small}
-use Rattle.fill_shared.proofs.Turns.{rowOf, turn-length, turn-index, rows-kept, rows-stood}
+use Rattle.fill_shared.proofs.Filling.{rowOf, filling-length, filling-index, rows-kept, rows-stood}
 use Rattle.fill_alter.proofs.Loops.{Altering}
 use Rattle.fill_alter.proofs.fill_alter.Proof.Begun as begun
 use Rattle.fill_alter.proofs.fill_alter.Proof.Begun.{Inv-loop, μ-loop, Told, entry, A, B, old, a-sound, started}
@@ -65,7 +65,7 @@ pub holds : (l : At) → Holds l (before l)
 holds l = l .loop .inv (before l) (started (l .before .before))
 
 pub same : (l : At) → length (l .loop .pool) ≡ length (before l)
-same l = turn-length _ _ _ _ _ _ _ _ _ (holds l .stage .turn)
+same l = filling-length _ _ _ _ _ _ _ _ _ (holds l .stage .filling)
 
 pub a-part : (l : At) → let k = A (base l) in (k .start ≤ k .end) × (k .end ≤ length (l .loop .pool)) × (k .end ≤ poolLimit)
 a-part l = begun.a-part (base l) (l .loop .pool) (same l)
@@ -78,7 +78,7 @@ pub inside : (c : In) → at-of c .loop .reached .t < entry (base (at-of c)) .ar
 inside c = c .if1 .taken
 
 pub index : (c : In) → let l = at-of c in (entry (base l) .args .at + l .loop .reached .t < length (l .loop .pool)) × (length (l .loop .pool) ≤ poolLimit)
-index c = turn-index _ _ _ _ _ _ _ _ _ (holds (at-of c) .stage .turn) (inside c)
+index c = filling-index _ _ _ _ _ _ _ _ _ (holds (at-of c) .stage .filling) (inside c)
 
 pub early : (c : In) → at-of c .loop .reached .t ≤ poolLimit
 early c = let h = index c in omega arith
@@ -86,10 +86,10 @@ early c = let h = index c in omega arith
 module _ (l : At) (x : List ℤ) (h : Holds l x) where
   -- what holds of the rows as they stood holds of them as they stand, and back
   pub kept : (P : Row → Row → Type 0) → P (a-in l x) (b-in l x) → P (a-in l (l .loop .pool)) (b-in l (l .loop .pool))
-  kept P p = rows-kept _ _ _ _ _ _ _ _ _ (h .stage .turn) P p
+  kept P p = rows-kept _ _ _ _ _ _ _ _ _ (h .stage .filling) P p
 
   pub stood : (P : Row → Row → Type 0) → P (a-in l (l .loop .pool)) (b-in l (l .loop .pool)) → P (a-in l x) (b-in l x)
-  stood P p = rows-stood _ _ _ _ _ _ _ _ _ (h .stage .turn) P p
+  stood P p = rows-stood _ _ _ _ _ _ _ _ _ (h .stage .filling) P p
 
 -- ---- the label
 

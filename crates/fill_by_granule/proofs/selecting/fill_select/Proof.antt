@@ -19,7 +19,7 @@ use Rattle.calendar.specs.Limits.{poolLimit}
 use Rattle.calendar.specs.Sound.{sound}
 use Rattle.cursors.specs.Found.{Near}
 use Rattle.cursors.specs.Cursor.{cursorAt, Standing, Shown}
-use Rattle.fill_shared.proofs.Turns.{rowOf, turn-length, rows-kept, rows-stood, turn-out, turn-done}
+use Rattle.fill_shared.proofs.Filling.{rowOf, filling-length, rows-kept, rows-stood, filling-out, filling-done}
 use Rattle.fill_stretches.specs.Stretch.{Follows}
 use Rattle.fill_stretches.proofs.Stages.{room-a}
 use Rattle.fill_by_granule.proofs.selecting.fill_select.Proof.Begun.{Inv-loop, μ-loop, entry, old, A, B, start, as-filled, a-sound, b-sound, a-part, b-part, led, led-part, led-few}
@@ -131,7 +131,7 @@ decided-requires c κs =
     let j = label-fits s in
     let e = label-is s (old k) h in
     kept l (old k) h (Asks l (toZ w64 (ofZ w64 (pos (l .loop .reached .t)))) (toZ w64 (ofZ w64 (label s))))
-    (simp plain (a-sound k, (b-sound k, (start k .lends .is-given .numbers, (h .remembers, (simp ints (omega arith), (e, (h .along .stage .follows .cursor, (h .along .is-cursor, λ f. h .along .begins f (inside (in-of s)) (label s) e)))))))))
+    (simp plain (a-sound k, (b-sound k, (start k .lends .is-fillable .numbers, (h .remembers, (simp ints (omega arith), (e, (h .along .stage .follows .cursor, (h .along .is-cursor, λ f. h .along .begins f (inside (in-of s)) (label s) e)))))))))
 
 kept-requires : tie.Need-kept-requires Inv-loop μ-loop
 kept-requires c κs = tt
@@ -147,7 +147,7 @@ returns c =
     let y = c .before .before in
     let l = at-label y in
     as-filled (base l) _ _
-    (turn-out _ _ _ _ _ _ _ _ _ (holds l .along .stage .turn) (inside (in-of (shown (decided-of y)))) (given-label y) (given-result y) _ refl (sym (c .before .in-limits .ensures) ∙ not-true _ (c .if2 .taken)))
+    (filling-out _ _ _ _ _ _ _ _ _ (holds l .along .stage .filling) (inside (in-of (shown (decided-of y)))) (given-label y) (given-result y) _ refl (sym (c .before .in-limits .ensures) ∙ not-true _ (c .if2 .taken)))
 
 cell-of-requires : tie.Need-cell-of-requires Inv-loop μ-loop
 cell-of-requires c κs = in-range c
@@ -159,13 +159,13 @@ fill-stretch-requires c κs =
     let l = at-label (c .before .before .before .before) in
     let k = base l in
     let h = holds l in
-    (room-a _ (A k) (B k) _ _ (old k) _ _ _ (h .along .stage .turn) (a-sound k), kept l (old k) h (λ x y. Follows x (entry k .args .period) (l .loop .reached)) (h .along .stage .follows))
+    (room-a _ (A k) (B k) _ _ (old k) _ _ _ (h .along .stage .filling) (a-sound k), kept l (old k) h (λ x y. Follows x (entry k .args .period) (l .loop .reached)) (h .along .stage .follows))
 
 filled-part : (c : Filled) → let k = base (at-filled c) in (B k .start ≤ B k .end) × (B k .end ≤ length (filled-pool c)) × (B k .end ≤ poolLimit)
-filled-part c = let l = at-filled c in let k = base l in b-part k (filled-pool c) (turn-length _ _ _ _ _ _ _ _ _ (filled c (old k) (holds l) _ refl .along .stage .turn))
+filled-part c = let l = at-filled c in let k = base l in b-part k (filled-pool c) (filling-length _ _ _ _ _ _ _ _ _ (filled c (old k) (holds l) _ refl .along .stage .filling))
 
 filled-few : (c : Filled) → c .fill-stretch .result .t ≤ poolLimit
-filled-few c = let l = at-filled c in let k = base l in let h = filled c (old k) (holds l) _ refl .along .stage in let d = h .turn .lends in omega (arith, h .follows .in-room, d .room, d .few)
+filled-few c = let l = at-filled c in let k = base l in let h = filled c (old k) (holds l) _ refl .along .stage in let d = h .filling .lends in omega (arith, h .follows .in-room, d .room, d .few)
 
 mul-cursor-on : tie.Need-mul-cursor-on Inv-loop μ-loop
 mul-cursor-on c = let h = filled-part (c .before) in omega arith
@@ -195,7 +195,7 @@ cursor-on-requires c κs =
     let g = goes-on f in
     let m : f .fill-stretch .result .t - p < 2 ^ 63 = omega arith in
     let h = holds l in
-    rows-kept _ _ _ _ _ _ _ _ _ (filled f (old k) h _ refl .along .stage .turn)
+    rows-kept _ _ _ _ _ _ _ _ _ (filled f (old k) h _ refl .along .stage .filling)
     (λ x y. (sound y ≡ true) × (Standing y (l .loop .b-cursor) × ((pos 0 ≤ℤ toZ w64 (ofZ w64 (pos (f .fill-stretch .result .t - p)))) × (toZ w64 (ofZ w64 (pos (f .fill-stretch .result .t - p))) ≤ℤ pos (2 ^ 32)))))
     (simp plain (b-sound k, ((pos p, simp ints (omega arith), h .along .is-cursor), (simp ints (omega arith), simp ints (omega arith)))))
 
@@ -210,7 +210,7 @@ next-cursor c x h =
     let n = filled-few f in
     let g = goes-on f in
     let m : q - p < 2 ^ 63 = omega arith in
-    let t = filled f x h _ refl .along .stage .turn in
+    let t = filled f x h _ refl .along .stage .filling in
     let e : pos p +ℤ pos (q - p) ≡ pos q = simp ints (omega arith) in
     rows-stood _ _ _ _ _ _ _ _ _ t (λ y z. c .cursor-on .result ≡ cursorAt z (pos q))
     (rw e at ((simp plain at (c .cursor-on .ensures)) (pos p) (rows-kept _ _ _ _ _ _ _ _ _ t (λ y z. l .loop .b-cursor ≡ cursorAt z (pos p)) (h .along .is-cursor))))
@@ -243,7 +243,7 @@ same-length-2 c = same (c .before .before .before)
 returns-2 : tie.Need-returns-2 Inv-loop μ-loop
 returns-2 c =
     let l = c .before .before .before in
-    as-filled (base l) _ _ (rw (c .outcome .ensures) (turn-done _ _ _ _ _ _ _ _ _ (holds l .along .stage .turn) (c .before .if1 .left)))
+    as-filled (base l) _ _ (rw (c .outcome .ensures) (filling-done _ _ _ _ _ _ _ _ _ (holds l .along .stage .filling) (c .before .if1 .left)))
 
 pub fill-select-spec : {M : Type 1} → statement M
 fill-select-spec =

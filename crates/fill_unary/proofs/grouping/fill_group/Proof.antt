@@ -25,7 +25,7 @@ use Rattle.fill_shared.specs.declared.Filled.{Filled}
 use Rattle.fill_shared.proofs.Cells.{lent-is}
 use Rattle.fill_shared.proofs.Points.{is-near}
 use Rattle.fill_shared.specs.Placed.{Fills}
-use Rattle.fill_shared.proofs.Turns.{Lent, Turn, lentOf, rowOf, first-one, fills-one, turn-length, turn-below}
+use Rattle.fill_shared.proofs.Filling.{Lent, Filling, lentOf, rowOf, first-one, fills-one, filling-length, filling-below}
 use Rattle.fill_shared.proofs.Cursors.{Cell, first-cell, cell-bounds, cell-next}
 use Rattle.fill_unary.specs.Grouped.{Knows}
 use Rattle.fill_unary.proofs.Lent.{lentFrom, lent-from}
@@ -36,7 +36,7 @@ use Rattle.fill_unary.proofs.grouping.fill_group.Tie as tie
 
 abbrev Inv-loop : tie.InvT-loop
 Inv-loop x span at period pool₀ start end count a-distance rise₀ known₀ t₀ pool rise known t =
-    ((labelled : Bool) × Turn (Group (toZ w64 x)) (lentFrom start end a-distance) (lentFrom start end a-distance) at period pool₀ pool labelled t)
+    ((labelled : Bool) × Filling (Group (toZ w64 x)) (lentFrom start end a-distance) (lentFrom start end a-distance) at period pool₀ pool labelled t)
     × Cell (lentFrom start end a-distance) pool₀ start (toZ w64 rise) (pos t)
     × Knows (toZ w64 x) known
 
@@ -69,10 +69,10 @@ lent-as c = lent-from (entry c .args .a) _ (entry c .pre .1 .a-period) (c .befor
 a-is : (c : Begun) → let s = entry c in rowOf (lentOf (s .args .a) (c .before .end-of .result)) (s .args .pool .now) ≡ rowIn (s .args .pool .now) (s .args .a)
 a-is c = lent-is (entry c .args .a) _ _ (c .before .end-of .ensures) (sfits-of (c .struct-told .given .1 .0 .1)) (sfits-of (c .struct-told .given .1 .1 .0 .1))
 
-first : (c : Begun) → let s = entry c in Turn (Group (toZ w64 (ofZ w64 (s .args .x)))) (lent c) (lent c) (s .args .at) (s .args .period) (s .args .pool .now) (s .args .pool .now) false 0
+first : (c : Begun) → let s = entry c in Filling (Group (toZ w64 (ofZ w64 (s .args .x)))) (lent c) (lent c) (s .args .at) (s .args .period) (s .args .pool .now) (s .args .pool .now) false 0
 first c =
     let s = entry c in
-    subst (λ (l : Lent). Turn (Group (toZ w64 (ofZ w64 (s .args .x)))) l l (s .args .at) (s .args .period) (s .args .pool .now) (s .args .pool .now) false 0) (lent-as c)
+    subst (λ (l : Lent). Filling (Group (toZ w64 (ofZ w64 (s .args .x)))) l l (s .args .at) (s .args .period) (s .args .pool .now) (s .args .pool .now) false 0) (lent-as c)
     (first-one _ _ (ap Group (toZ-ofZ (s .fits .x))) (s .args .a) (s .args .b) _ _ _ _ _ (c .before .end-of .ensures) (a-is c) refl (s .pre .0) (s .pre .1))
 
 -- what the loop ensures, over the operand
@@ -93,7 +93,7 @@ loop-holds : tie.Need-loop-holds Inv-loop μ-loop
 loop-holds c =
     let h = first c in (
       (_, h),
-      first-cell (lent c) _ (h .lends .is-given .sounds .0) (omega (arith, h .lends .a-end, h .lends .room)),
+      first-cell (lent c) _ (h .lends .is-fillable .sounds .0) (omega (arith, h .lends .a-end, h .lends .room)),
       record { numbers = λ j p q. absurd (p ∴ q ∴ simp ints (omega arith)); within = refl },
     )
 
@@ -105,14 +105,14 @@ index : (c : In-loop) → let l = c .before in let a = lent (l .before) in let s
     (a .start + (a .end - a .start) ≤ s .args .at + l .loop .t) × (s .args .at + l .loop .t + (a .end - a .start) ≤ length (l .loop .pool)) × (length (l .loop .pool) ≤ poolLimit)
 index c =
     let h = c .before .loop .inv .0 .1 in
-    let e = turn-length _ _ _ _ _ _ _ _ _ h in
+    let e = filling-length _ _ _ _ _ _ _ _ _ h in
     (omega (arith, h .lends .a-start, h .lends .a-end), omega (arith, room c, h .lends .room), omega (arith, h .lends .few))
 
 near : (c : In-loop) → Near (pos (c .before .loop .t))
-near c = is-near (pos (c .before .loop .t)) (simp ints (omega arith)) (turn-below _ _ _ _ _ _ _ _ _ (c .before .loop .inv .0 .1) (c .loop-test .taken) ∴ simp ints (omega arith))
+near c = is-near (pos (c .before .loop .t)) (simp ints (omega arith)) (filling-below _ _ _ _ _ _ _ _ _ (c .before .loop .inv .0 .1) (c .loop-test .taken) ∴ simp ints (omega arith))
 
 sound-of : (l : At-loop) → sound (rowOf (lent (l .before)) (entry (l .before) .args .pool .now)) ≡ true
-sound-of l = l .loop .inv .0 .1 .lends .is-given .sounds .0
+sound-of l = l .loop .inv .0 .1 .lends .is-fillable .sounds .0
 
 end-in : (l : At-loop) → lent (l .before) .end ≤ length (entry (l .before) .args .pool .now)
 end-in l = let h = l .loop .inv .0 .1 in omega (arith, h .lends .a-end, h .lends .room)
@@ -129,7 +129,7 @@ fill-turn-requires c κs =
     let i = c .before in
     let l = i .before in
     let h = l .loop .inv .0 .1 in
-    (h .lends .is-given .numbers, (l .loop .inv .2, (index i, turn-small _ (lent (l .before)) _ _ _ _ _ _ _ h (l .loop .inv .1) (room i))))
+    (h .lends .is-fillable .numbers, (l .loop .inv .2, (index i, turn-small _ (lent (l .before)) _ _ _ _ _ _ _ h (l .loop .inv .1) (room i))))
 
 in-range-requires : tie.Need-in-range-requires Inv-loop μ-loop
 in-range-requires c κs = tt
@@ -142,7 +142,7 @@ range-is c =
 same-length : tie.Need-same-length Inv-loop μ-loop
 same-length c =
     let f = c .before .before .before .before in
-    f .fill-turn .ensures .0 ∙ turn-length _ _ _ _ _ _ _ _ _ (f .before .before .before .loop .inv .0 .1)
+    f .fill-turn .ensures .0 ∙ filling-length _ _ _ _ _ _ _ _ _ (f .before .before .before .loop .inv .0 .1)
 
 returns : tie.Need-returns Inv-loop μ-loop
 returns c =
@@ -181,7 +181,7 @@ loop-again c =
 -- ---- the end
 
 same-length-2 : tie.Need-same-length-2 Inv-loop μ-loop
-same-length-2 c = turn-length _ _ _ _ _ _ _ _ _ (c .before .loop .inv .0 .1)
+same-length-2 c = filling-length _ _ _ _ _ _ _ _ _ (c .before .loop .inv .0 .1)
 
 returns-2 : tie.Need-returns-2 Inv-loop μ-loop
 returns-2 c =

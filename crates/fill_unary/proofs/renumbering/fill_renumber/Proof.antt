@@ -20,7 +20,7 @@ use Rattle.calendar.specs.Limits.{inRange, poolLimit}
 use Rattle.cursors.proofs.Numbers.{read-as}
 use Rattle.cursors.proofs.Cells.{label-empty, label-full}
 use Rattle.fill_shared.proofs.Working.{range-fits}
-use Rattle.fill_shared.proofs.Turns.{lentOf, rowOf}
+use Rattle.fill_shared.proofs.Filling.{lentOf, rowOf}
 use Rattle.fill_unary.proofs.Counting.{Step, step-past, step-same, step-next}
 use Rattle.fill_unary.proofs.Renumbers.{Renumbers, rules, renumbers-length, renumbers-index, label-is, renumbers-fit, renumbers-more, renumbers-out, renumbers-done}
 use Rattle.fill_unary.proofs.renumbering.fill_renumber.Proof.Begun.{Inv-loop, μ-loop, Told, At-loop, entry, end-of-requires, as-filled, mul-last-before, sub-last-before, part-last-before-start, part-last-before-end, last-before-requires, mul-number-of, sub-number-of, part-number-of-start, part-number-of-end, number-of-requires, loop-holds}

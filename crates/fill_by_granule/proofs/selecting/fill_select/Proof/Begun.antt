@@ -20,8 +20,8 @@ use Rattle.kinds.specs.Stands.{rowIn}
 use Rattle.fill_shared.specs.declared.Filled.{Filled}
 use Rattle.fill_shared.proofs.Cells.{lent-is}
 use Rattle.fill_shared.specs.Placed.{Fills}
-use Rattle.fill_shared.proofs.Turns.{Lent, Turn, lentAs, lentOf, rowOf, first-two, fills-two, turn-length, rows-stood}
-use Rattle.fill_stretches.proofs.Turns.{turn-led}
+use Rattle.fill_shared.proofs.Filling.{Lent, Filling, lentAs, lentOf, rowOf, first-two, fills-two, filling-length, rows-stood}
+use Rattle.fill_stretches.proofs.Stretching.{filling-led}
 use Rattle.fill_by_granule.proofs.Selects.{Selecting, unlabelled, selecting-none}
 use Rattle.fill_by_granule.proofs.selecting.fill_select.Tie as tie
 
@@ -70,7 +70,7 @@ b-is : (k : Base) → b-row k ≡ rowIn (old k) (entry k .args .b)
 b-is k = lent-is (entry k .args .b) _ _ (k .before .before .end-of2 .ensures) (sfits-of (k .before .struct-told3 .given .1 .0 .1)) (sfits-of (k .struct-told4 .given .1 .1 .0 .1))
 
 -- what holds before the loop
-pub start : (k : Base) → let s = entry k in Turn (Select (by k)) (A k) (B k) (s .args .at) (s .args .period) (old k) (old k) false 0
+pub start : (k : Base) → let s = entry k in Filling (Select (by k)) (A k) (B k) (s .args .at) (s .args .period) (old k) (old k) false 0
 start k =
     let s = entry k in
     first-two _ _ refl (s .args .a) (s .args .b) _ _ _ _ _ (k .before .before .before .before .before .end-of .ensures) (a-is k) _ (k .before .before .end-of2 .ensures) (b-is k) (s .pre .0) (s .pre .1)
@@ -83,10 +83,10 @@ as-filled k new r h =
     fills-two (Select (by k)) (Select (by k)) refl (s .args .a) (s .args .b) (s .args .span) (s .args .at) (s .args .period) _ _ (k .before .before .before .before .before .end-of .ensures) (a-is k) _ (k .before .before .end-of2 .ensures) (b-is k) new r h
 
 pub a-sound : (k : Base) → sound (a-row k) ≡ true
-a-sound k = start k .lends .is-given .sounds .0
+a-sound k = start k .lends .is-fillable .sounds .0
 
 pub b-sound : (k : Base) → sound (b-row k) ≡ true
-b-sound k = start k .lends .is-given .sounds .1
+b-sound k = start k .lends .is-fillable .sounds .1
 
 -- the parts that are lent lie in the pool
 pub a-part : (k : Base) (new : List ℤ) → length new ≡ length (old k) → (A k .start ≤ A k .end) × (A k .end ≤ length new) × (A k .end ≤ poolLimit)
@@ -102,13 +102,13 @@ abbrev pub led-pool : tie.After-fill-leading Inv-loop μ-loop → List ℤ
 led-pool c = c .fill-leading .last .1 .1 .0
 
 pub led : (c : tie.After-fill-leading Inv-loop μ-loop) → let k = c .before .before in let s = entry k in
-    Turn (Select (by k)) (A k) (B k) (s .args .at) (s .args .period) (old k) (led-pool c) false (c .fill-leading .result .t)
+    Filling (Select (by k)) (A k) (B k) (s .args .at) (s .args .period) (old k) (led-pool c) false (c .fill-leading .result .t)
 led c =
     let k = c .before .before in
-    turn-led _ (A k) (B k) _ _ (old k) (a-row k) _ _ (start k) (c .fill-leading .ensures) (unlabelled (by k) (A k) (B k) (entry k .args .at) (entry k .args .period) (old k))
+    filling-led _ (A k) (B k) _ _ (old k) (a-row k) _ _ (start k) (c .fill-leading .ensures) (unlabelled (by k) (A k) (B k) (entry k .args .at) (entry k .args .period) (old k))
 
 pub led-part : (c : tie.After-fill-leading Inv-loop μ-loop) → let k = c .before .before in (B k .start ≤ B k .end) × (B k .end ≤ length (led-pool c)) × (B k .end ≤ poolLimit)
-led-part c = b-part (c .before .before) (led-pool c) (turn-length _ _ _ _ _ _ _ _ _ (led c))
+led-part c = b-part (c .before .before) (led-pool c) (filling-length _ _ _ _ _ _ _ _ _ (led c))
 
 -- how far that is
 pub led-few : (c : tie.After-fill-leading Inv-loop μ-loop) → c .fill-leading .result .t ≤ poolLimit

@@ -31,7 +31,7 @@ use Rattle.select_granules.specs.Deciding.{Decides}
 use Rattle.kinds.specs.declared.Kind.the-variants.{Select}
 use Rattle.kinds.specs.Operations.{operationOf}
 use Rattle.fill_shared.proofs.Points.{label-small}
-use Rattle.fill_shared.proofs.Turns.{rowOf, turn-length, rows-kept, rows-stood}
+use Rattle.fill_shared.proofs.Filling.{rowOf, filling-length, rows-kept, rows-stood}
 use Rattle.fill_stretches.specs.Stretch.{Stretched}
 use Rattle.fill_stretches.proofs.Stages.{cell-fits}
 use Rattle.fill_by_granule.proofs.Selects.{Selecting, decided-label, selecting-next, granule-on}
@@ -64,7 +64,7 @@ pub holds : (l : At) → Holds l (old (base l))
 holds l = l .loop .inv (old (base l)) (started (l .before))
 
 pub same : (l : At) → length (l .loop .pool) ≡ length (old (base l))
-same l = turn-length _ _ _ _ _ _ _ _ _ (holds l .along .stage .turn)
+same l = filling-length _ _ _ _ _ _ _ _ _ (holds l .along .stage .filling)
 
 -- the instant is before the last one
 pub inside : (c : In) → at-of c .loop .reached .t < entry (base (at-of c)) .args .period
@@ -72,18 +72,18 @@ inside c = c .if1 .taken
 
 -- and so is near
 pub few : (c : In) → at-of c .loop .reached .t < poolLimit
-few c = let l = holds (at-of c) .along .stage .turn .lends in omega (arith, inside c, l .room, l .few)
+few c = let l = holds (at-of c) .along .stage .filling .lends in omega (arith, inside c, l .room, l .few)
 
 module _ (l : At) (x : List ℤ) (h : Holds l x) where
   -- what holds of the rows as they stood holds of them as they stand, and back
   pub kept : (P : Row → Row → Type 0) → let k = base l in P (rowOf (A k) x) (rowOf (B k) x) → P (rowOf (A k) (l .loop .pool)) (rowOf (B k) (l .loop .pool))
-  kept P p = rows-kept _ _ _ _ _ _ _ _ _ (h .along .stage .turn) P p
+  kept P p = rows-kept _ _ _ _ _ _ _ _ _ (h .along .stage .filling) P p
 
   pub stood : (P : Row → Row → Type 0) → let k = base l in P (rowOf (A k) (l .loop .pool)) (rowOf (B k) (l .loop .pool)) → P (rowOf (A k) x) (rowOf (B k) x)
-  stood P p = rows-stood _ _ _ _ _ _ _ _ _ (h .along .stage .turn) P p
+  stood P p = rows-stood _ _ _ _ _ _ _ _ _ (h .along .stage .filling) P p
 
   pub rows-sound : let k = base l in (sound (rowOf (A k) x) ≡ true) × (sound (rowOf (B k) x) ≡ true)
-  rows-sound = h .along .stage .turn .lends .is-given .sounds
+  rows-sound = h .along .stage .filling .lends .is-fillable .sounds
 
 -- ---- its label
 

@@ -18,7 +18,7 @@ use Rattle.kinds.specs.Stands.{rowIn}
 use Rattle.fill_shared.specs.declared.Filled.{Filled}
 use Rattle.fill_shared.proofs.Cells.{lent-is}
 use Rattle.fill_shared.specs.Placed.{Fills}
-use Rattle.fill_shared.proofs.Turns.{Turn, lentAs, lentOf, rowOf, first-one, fills-one}
+use Rattle.fill_shared.proofs.Filling.{Filling, lentAs, lentOf, rowOf, first-one, fills-one}
 use Rattle.fill_unary.proofs.Renumbers.{Renumbers}
 use Rattle.fill_unary.proofs.renumbering.fill_renumber.Tie as tie
 
@@ -49,7 +49,7 @@ a-is : (c : Told) → let s = entry c in rowOf (lentOf (s .args .a) (c .before .
 a-is c = lent-is (entry c .args .a) _ _ (c .before .before .end-of .ensures) (sfits-of (c .before .struct-told .given .1 .0 .1)) (sfits-of (c .struct-told2 .given .1 .1 .0 .1))
 
 first : (c : Told) → let s = entry c in let a = lentOf (s .args .a) (c .before .before .end-of .result) in
-    Turn (Renumber (toZ w64 (ofZ w64 (s .args .x)))) a a (s .args .at) (s .args .period) (s .args .pool .now) (s .args .pool .now) false 0
+    Filling (Renumber (toZ w64 (ofZ w64 (s .args .x)))) a a (s .args .at) (s .args .period) (s .args .pool .now) (s .args .pool .now) false 0
 first c =
     let s = entry c in
     first-one _ _ (ap Renumber (toZ-ofZ (s .fits .x))) (s .args .a) (s .args .b) _ _ _ _ _ (c .before .before .end-of .ensures) (a-is c) refl (s .pre .0) (s .pre .1)
@@ -78,7 +78,7 @@ pub part-last-before-end : tie.Need-part-last-before-end Inv-loop μ-loop
 part-last-before-end c = lent-end (c .before) .0
 
 pub last-before-requires : tie.Need-last-before-requires Inv-loop μ-loop
-last-before-requires c κs = first (c .before .before) .lends .is-given .sounds .0
+last-before-requires c κs = first (c .before .before) .lends .is-fillable .sounds .0
 
 pub mul-number-of : tie.Need-mul-number-of Inv-loop μ-loop
 mul-number-of c = mul-last-before (c .before .before .before)
@@ -95,7 +95,7 @@ part-number-of-end c = part-last-before-end (c .before .before .before)
 pub number-of-requires : tie.Need-number-of-requires Inv-loop μ-loop
 number-of-requires c κs =
     let b = c .before .before in
-    (first (b .before .before .before) .lends .is-given, toZ-ofZ {w = w64} {z = b .last-before .result} (sfits-of (b .last-before .ok)) ∙ b .last-before .ensures)
+    (first (b .before .before .before) .lends .is-fillable, toZ-ofZ {w = w64} {z = b .last-before .result} (sfits-of (b .last-before .ok)) ∙ b .last-before .ensures)
 
 -- with these the loop begins
 last-read : (c : tie.After-last-before Inv-loop μ-loop) → toZ w64 (ofZ w64 (c .last-before .result)) ≡ c .last-before .result
@@ -106,7 +106,7 @@ loop-holds c =
     let b = c .before .before .before in (
       record {
         labelled = false;
-        turn = first (b .before .before .before);
+        filling = first (b .before .before .before);
         counts = record { is-last = last-read b ∙ b .last-before .ensures; numbered = toZ-ofZ {w = w64} {z = c .number-of .result} (sfits-of (c .number-of .ok)) ∙ c .number-of .ensures };
       },
       ap (ofZ w64) (last-read b),

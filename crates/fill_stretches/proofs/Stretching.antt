@@ -1,4 +1,4 @@
--- A stretch is some turns of the loop that fills a working row, for any kind; and what its end says of the row that is followed.
+-- A stretch is some instants of the loop that fills a working row, for any kind; and what its end says of the row that is followed.
 -- Assumes nothing.
 use mathlib.Core.Path.{_≡_, refl, sym, _∙_, ap, subst}
 use mathlib.Core.Logic.{_⊎_, inl, inr}
@@ -23,7 +23,7 @@ use Rattle.granules.specs.Valid.{Valid}
 use Rattle.granule_ends.proofs.Walks.{first-is}
 use Rattle.kinds.specs.declared.Kind.{Kind}
 use Rattle.kinds.specs.Operations.{operationOf}
-use Rattle.fill_shared.proofs.Turns.{Lent, Turn, rowOf, turn-more}
+use Rattle.fill_shared.proofs.Filling.{Lent, Filling, rowOf, filling-more}
 use Rattle.fill_stretches.specs.declared.Reached.{Reached}
 use Rattle.fill_stretches.specs.Stretch.{cellWhere, stretched, Stretched, Led}
 
@@ -69,33 +69,33 @@ module _ (k : Kind) (a b : Lent) (at period : ℕ) (old : List ℤ) (r : Row) wh
   abbrev o : Operation Row
   o = operationOf k (rowOf a old) (rowOf b old)
 
-  module _ (y : Option ℤ) (in-range : ifLabel y inRange ≡ true) (new : List ℤ) (labelled : Bool) (t : ℕ) (h : Turn k a b at period old new labelled t) where
+  module _ (y : Option ℤ) (in-range : ifLabel y inRange ≡ true) (new : List ℤ) (labelled : Bool) (t : ℕ) (h : Filling k a b at period old new labelled t) where
     turns : (n : ℕ) → t + n ≤ period → ((u : ℕ) → t ≤ u → u < t + n → spread y (meant r (pos u)) ≡ result o (pos u))
-        → Turn k a b at period old (stretched (cellOf y) r at t n new) (marks y r t n labelled) (t + n)
-    turns zero m e = let z : t ≡ t + 0 = omega arith in subst (λ (u : ℕ). Turn k a b at period old new labelled u) z h
+        → Filling k a b at period old (stretched (cellOf y) r at t n new) (marks y r t n labelled) (t + n)
+    turns zero m e = let z : t ≡ t + 0 = omega arith in subst (λ (u : ℕ). Filling k a b at period old new labelled u) z h
     turns (suc n) m e =
         let x = meant r (pos (t + n)) in
         let z : t + n + 1 ≡ t + suc n = omega arith in
         let w = turns n (omega arith) (λ u i j. e u i (omega arith)) in
-        subst (λ (u : ℕ). Turn k a b at period old (stretched (cellOf y) r at t (suc n) new) (marks y r t (suc n) labelled) u) z
-        (turn-more k a b at period old _ _ (t + n) w (omega arith) (spread y x) (e (t + n) (omega arith) (omega arith)) _ _ (spread-range y x in-range)
+        subst (λ (u : ℕ). Filling k a b at period old (stretched (cellOf y) r at t (suc n) new) (marks y r t (suc n) labelled) u) z
+        (filling-more k a b at period old _ _ (t + n) w (omega arith) (spread y x) (e (t + n) (omega arith) (omega arith)) _ _ (spread-range y x in-range)
         (ap (set (stretched (cellOf y) r at t n new) (at + (t + n))) (cell-spread y x)) refl)
 
   -- the instants before the first label
-  pub turn-led : (q : Reached) (new : List ℤ) → Turn k a b at period old old false 0 → Led r at period old q new
-      → ((u : ℕ) → meant r (pos u) ≡ none → none ≡ result o (pos u)) → Turn k a b at period old new false (q .t)
-  turn-led q new h x f =
+  pub filling-led : (q : Reached) (new : List ℤ) → Filling k a b at period old old false 0 → Led r at period old q new
+      → ((u : ℕ) → meant r (pos u) ≡ none → none ≡ result o (pos u)) → Filling k a b at period old new false (q .t)
+  filling-led q new h x f =
       let z : 0 + q .t ≡ q .t = omega arith in
       let w = turns none refl old false 0 h (q .t) (omega (arith, x .follows .in-room)) (λ u i j. let e = x .unlabelled u (omega (arith, z)) in ap (spread none) e ∙ f u e) in
       rw (x .cells) (rw (z, marks-none r 0 (q .t) false) at w)
 
   -- the instants of a stretch, from a labelled one on
-  module _ (y : Option ℤ) (in-range : ifLabel y inRange ≡ true) (new : List ℤ) (labelled : Bool) (p : Reached) (h : Turn k a b at period old new labelled (p .t)) where
-    pub turn-stretched : (z : ℤ) (q : Reached) (pool : List ℤ) (j : ℤ) → Stretched (cellOf y) z r at period new p q pool → meant r (pos (p .t)) ≡ some j → p .t < q .t
+  module _ (y : Option ℤ) (in-range : ifLabel y inRange ≡ true) (new : List ℤ) (labelled : Bool) (p : Reached) (h : Filling k a b at period old new labelled (p .t)) where
+    pub filling-stretched : (z : ℤ) (q : Reached) (pool : List ℤ) (j : ℤ) → Stretched (cellOf y) z r at period new p q pool → meant r (pos (p .t)) ≡ some j → p .t < q .t
         → ((u : ℕ) → meant r (pos u) ≡ none → none ≡ result o (pos u))
         → ((u : ℕ) (l : ℤ) → p .t ≤ u → u < q .t → meant r (pos u) ≡ some l → y ≡ result o (pos u))
-        → Turn k a b at period old pool (isSome y || labelled) (q .t)
-    turn-stretched z q pool j x e m f g =
+        → Filling k a b at period old pool (isSome y || labelled) (q .t)
+    filling-stretched z q pool j x e m f g =
         let n : p .t + (q .t - p .t) ≡ q .t = omega arith in
         let w = turns y in-range new labelled (p .t) h (q .t - p .t) (omega (arith, x .follows .in-room)) (λ u i v. by u i (omega arith) (meant r (pos u)) refl) in
         rw (x .cells) (rw (n, marks-is y j r (p .t) (q .t - p .t) labelled e (omega arith)) at w)

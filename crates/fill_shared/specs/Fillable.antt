@@ -14,7 +14,7 @@ use Rattle.kinds.specs.declared.Kind.{Kind}
 use Rattle.kinds.specs.Operations.{operationOf, operands, Numbers, SoundFirst}
 
 -- an operation that has passed checks 6, 7, 9 and 10, over rows of a pool
-pub record Given (k : Kind) (a b : Row) : Type 0 where
+pub record Fillable (k : Kind) (a b : Row) : Type 0 where
   pub numbers : Numbers k
   pub sounds : SoundFirst (operands k) a b
   pub ready : Ready (operationOf k a b)
