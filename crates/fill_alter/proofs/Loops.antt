@@ -22,7 +22,7 @@ use Rattle.kinds.specs.declared.Alteration.{Alteration}
 use Rattle.alter_granules.specs.declared.Repeat.{Repeat}
 use Rattle.alter_granules.specs.declared.Altered.{Altered}
 use Rattle.alter_granules.specs.declared.ahead.Walk.{Walk}
-use Rattle.alter_granules.specs.declared.behind.Instant.{Instant as Place}
+use Rattle.alter_granules.specs.declared.behind.Instant.{Instant}
 use Rattle.alter_granules.specs.Given.{altering, Alterable, Written}
 use Rattle.alter_granules.specs.Follows.{Follows}
 use Rattle.alter_granules.proofs.Tiled.{altered-iff, holds-some}
@@ -39,7 +39,7 @@ use Rattle.fill_stretches.proofs.Stages.{Stage, stage-led, stage-next}
 use Rattle.fill_alter.proofs.Scans.{Found, both, label-of}
 
 -- the working row is filled up to p, and the walk and the place behind are those of p
-pub record Altering (by : Alteration) (repeat : Repeat) (a b : Lent) (at period : ℕ) (old pool : List ℤ) (walk : Walk) (behind : Place) (p : Reached) : Type 0 where
+pub record Altering (by : Alteration) (repeat : Repeat) (a b : Lent) (at period : ℕ) (old pool : List ℤ) (walk : Walk) (behind : Instant) (p : Reached) : Type 0 where
   pub labelled : Bool
   pub stage : Stage (Alter by) a b (rowOf a old) at period old pool labelled p
   pub alterable : Alterable by repeat (rowOf a old) (rowOf b old)
@@ -82,7 +82,7 @@ module _ (by : Alteration) (repeat : Repeat) (a b : Lent) (at period : ℕ) (old
     follows = follows-later by repeat (rowOf a old) (rowOf b old) 0 (q .t) s (omega arith) f;
   }
 
-  module _ (new : List ℤ) (walk : Walk) (behind : Place) (p : Reached) (h : Altering by repeat a b at period old new walk behind p) where
+  module _ (new : List ℤ) (walk : Walk) (behind : Instant) (p : Reached) (h : Altering by repeat a b at period old new walk behind p) where
     pub altering-done : period ≤ p .t → Fills (altering by (rowOf a old) (rowOf b old)) at period old new Labelled
     altering-done m =
         let o = altering by (rowOf a old) (rowOf b old) in
@@ -102,7 +102,7 @@ module _ (by : Alteration) (repeat : Repeat) (a b : Lent) (at period : ℕ) (old
       written-cell u d l k = getD-take (p .t) (drop at new) u empty l ∙ getD-drop at new u empty ∙ getD-any new (at + u) empty d k
 
       -- behind the stretch of the number that is found
-      module _ (j : ℤ) (e : meant (rowOf a old) (pos (p .t)) ≡ some j) (w : Walk) (q : Place) (n z : ℤ) (f : Found by repeat (rowOf a old) (rowOf b old) (p .t) j w q n z)
+      module _ (j : ℤ) (e : meant (rowOf a old) (pos (p .t)) ≡ some j) (w : Walk) (q : Instant) (n z : ℤ) (f : Found by repeat (rowOf a old) (rowOf b old) (p .t) j w q n z)
           (r : Reached) (pool : List ℤ) (x : Stretched n z (rowOf a old) at period new p r pool) where
         pub found-on : p .t < r .t
         found-on = stretch-on n z (rowOf a old) at period new pool p r x j e (f .reaches) m

@@ -15,9 +15,9 @@ use Rattle.integers.proofs.Machine.{plain, test-lt}
 use Rattle.calendar.specs.Sound.{sound}
 use Rattle.cursors.proofs.Numbers.{read-as}
 use Rattle.alter_granules.specs.declared.ahead.Walk.{Walk}
-use Rattle.alter_granules.specs.declared.behind.Instant.{Instant as Place}
+use Rattle.alter_granules.specs.declared.behind.Instant.{Instant}
 use Rattle.alter_granules.specs.Follows as follows
-use Rattle.alter_granules.specs.Follows.{Altering, CoarseWalk as Walks, begins}
+use Rattle.alter_granules.specs.Follows.{Altering, CoarseWalk, begins}
 use Rattle.alter_granules.proofs.Followed.{reaches}
 use Rattle.fill_alter.proofs.Scans.{Found, both, found-as, found-walk}
 use Rattle.fill_alter.proofs.fill_alter.Proof.Begun.{Inv-loop, μ-loop, a-sound, b-sound}
@@ -45,7 +45,7 @@ pub end-fits : (c : Asked) → SFits w64 (asked-at c .loop .walk .end)
 end-fits c = sfits-of (c .struct-told6 .given .1 .1 .1 .1 .0 .1)
 
 -- what is found in the turn, over a pool x in which the rows stood
-abbrev pub Finds : (c : Asked) → List ℤ → Walk → Place → ℤ → ℤ → Type 0
+abbrev pub Finds : (c : Asked) → List ℤ → Walk → Instant → ℤ → ℤ → Type 0
 Finds c x w p n h = let l = asked-at c in Found (by l) (rep l) (a-in l x) (b-in l x) (l .loop .reached .t) (label (read-of c)) w p n h
 
 -- ---- the walk goes on
@@ -86,7 +86,7 @@ advance-to-requires c κs =
     let h = holds l in
     let w = l .loop .walk in
     let r = reaches (by l) (rep l) (a-in l x) (b-in l x) (h .alterable) (l .loop .reached .t) (both w (l .loop .behind)) (h .follows) (label (read-of d)) (label-is (read-of d) x h) in
-    kept l x h (λ y z. (sound y ≡ true) × ((sound z ≡ true) × (Altering (by l) y z × (Walks (by l) y z w × ((begins (by l) y z (w .label) ≤ℤ j-of d) × (j-of d <ℤ w .end))))))
+    kept l x h (λ y z. (sound y ≡ true) × ((sound z ≡ true) × (Altering (by l) y z × (CoarseWalk (by l) y z w × ((begins (by l) y z (w .label) ≤ℤ j-of d) × (j-of d <ℤ w .end))))))
     (a-sound (base l), (b-sound (base l), ((rep l, h .alterable), (h .follows .walk, rw (j-read d) (r, before-end i)))))
 
 -- ---- what it finds
@@ -95,12 +95,12 @@ abbrev asked-of : tie.After-advance-to Inv-loop μ-loop → Asked
 asked-of c = c .before .before .before .before .before
 
 walked : (c : tie.After-advance-to Inv-loop μ-loop) (x : List ℤ) → let d = asked-of c in let l = asked-at d in let w = c .advance-to .result in Holds l x
-    → Walks (by l) (a-in l x) (b-in l x) w × (follows.Holds (by l) (a-in l x) (b-in l x) (label (read-of d)) (w .label) × (w .end ≡ l .loop .walk .end))
+    → CoarseWalk (by l) (a-in l x) (b-in l x) w × (follows.Holds (by l) (a-in l x) (b-in l x) (label (read-of d)) (w .label) × (w .end ≡ l .loop .walk .end))
 walked c x h =
     let d = asked-of c in
     let l = asked-at d in
     let w = c .advance-to .result in
-    stood l x h (λ y z. Walks (by l) y z w × (follows.Holds (by l) y z (label (read-of d)) (w .label) × (w .end ≡ l .loop .walk .end))) (rw (j-read d) at (c .advance-to .ensures))
+    stood l x h (λ y z. CoarseWalk (by l) y z w × (follows.Holds (by l) y z (label (read-of d)) (w .label) × (w .end ≡ l .loop .walk .end))) (rw (j-read d) at (c .advance-to .ensures))
 
 abbrev Ahead : Type 0
 Ahead = tie.After-struct-told8 Inv-loop μ-loop

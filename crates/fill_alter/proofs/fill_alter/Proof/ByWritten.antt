@@ -22,7 +22,7 @@ use Rattle.cursors.specs.Cursor.{cursorAt}
 use Rattle.cursors.proofs.Numbers.{read-as, numbers}
 use Rattle.cursors.proofs.Bounds.{label-bound}
 use Rattle.alter_granules.specs.declared.Altered.{Altered}
-use Rattle.alter_granules.specs.declared.behind.Instant.{Instant as Place}
+use Rattle.alter_granules.specs.declared.behind.Instant.{Instant}
 use Rattle.alter_granules.specs.Follows.{Seeks}
 use Rattle.alter_granules.proofs.Followed.{seeks, place-behind}
 use Rattle.alter_granules.proofs.Reach.{Turns, turns-near}
@@ -117,7 +117,7 @@ past-of c = c .before .before .before .before .before
 abbrev asked-of : Sought → Asked
 asked-of c = past-of c .before
 
-abbrev place : Sought → Place
+abbrev place : Sought → Instant
 place c = c .seek .result
 
 found-back : (c : Sought) (x : List ℤ) → let l = asked-at (asked-of c) in let p = place c in Holds l x
