@@ -35,23 +35,26 @@ pub failed : {A : Type 0} (n : ℕ) {b : Bool} (r : Reply A) → b ≡ false →
 failed n r e = ap (λ (b : Bool). require n b r) e
 
 -- an answer behind a check: it has passed
-pub require-answer : {A : Type 0} {a : A} (n : ℕ) (b : Bool) (r : Reply A) → require n b r ≡ answer a → (b ≡ true) × (r ≡ answer a)
+pub require-answer : {A : Type 0} {a : A} (n : ℕ) (b : Bool) (r : Reply A) → require n b r ≡ answer a
+    → (b ≡ true) × (r ≡ answer a)
 require-answer n true r e = (refl, e)
 require-answer n false r e = absurd (no-answer e)
 
 -- a reply that is not the check's own is given behind it, where P holds, which the check decides
-pub behind : {A P Q : Type 0} (n : ℕ) (b : Bool) (r v : Reply A) → ¬ (refused n ≡ v) → (b ≡ true) ↔ P → (P → (r ≡ v) ↔ Q)
-    → (require n b r ≡ v) ↔ (P × Q)
+pub behind : {A P Q : Type 0} (n : ℕ) (b : Bool) (r v : Reply A) → ¬ (refused n ≡ v)
+    → (b ≡ true) ↔ P → (P → (r ≡ v) ↔ Q) → (require n b r ≡ v) ↔ (P × Q)
 behind n true r v other d h = let p = d .0 refl in (λ e. (p, h p .0 e), λ x. h p .1 (x .1))
 behind n false r v other d h = (λ e. absurd (other e), λ x. absurd (true≢false (d .1 (x .0)) refl))
 
 -- the check's own refusal, if none behind it has its number
-pub refused-here : {A P : Type 0} (n : ℕ) (b : Bool) (r : Reply A) → ¬ (r ≡ refused n) → (b ≡ true) ↔ P → (require n b r ≡ refused n) ↔ (¬ P)
+pub refused-here : {A P : Type 0} (n : ℕ) (b : Bool) (r : Reply A) → ¬ (r ≡ refused n) → (b ≡ true) ↔ P
+    → (require n b r ≡ refused n) ↔ (¬ P)
 refused-here n true r other d = (λ e. absurd (other e), λ f. absurd (f (d .0 refl)))
 refused-here n false r other d = (λ e x. true≢false (d .1 x) refl, λ f. refl)
 
 -- no refusal under m, where none is behind a check of another number
-pub not-behind : {A : Type 0} (m n : ℕ) (b : Bool) (r : Reply A) → ¬ (n ≡ m) → ¬ (r ≡ refused m) → ¬ (require n b r ≡ refused m)
+pub not-behind : {A : Type 0} (m n : ℕ) (b : Bool) (r : Reply A) → ¬ (n ≡ m) → ¬ (r ≡ refused m)
+    → ¬ (require n b r ≡ refused m)
 not-behind m n true r apart other e = other e
 not-behind m n false r apart other e = refused-apart apart e
 
@@ -61,6 +64,6 @@ two-checks : {A : Type 0} (n : ℕ) (b c : Bool) (r : Reply A) → require n b (
 two-checks n true c r = refl
 two-checks n false c r = refl
 
-pub refused-either : {A P Q : Type 0} (n : ℕ) (b c : Bool) (r : Reply A) → ¬ (r ≡ refused n) → (b ≡ true) ↔ P → (c ≡ true) ↔ Q
-    → (require n b (require n c r) ≡ refused n) ↔ (¬ (P × Q))
+pub refused-either : {A P Q : Type 0} (n : ℕ) (b c : Bool) (r : Reply A) → ¬ (r ≡ refused n)
+    → (b ≡ true) ↔ P → (c ≡ true) ↔ Q → (require n b (require n c r) ≡ refused n) ↔ (¬ (P × Q))
 refused-either n b c r other d e = rw two-checks (refused-here n (b && c) r other (both-iff d e))

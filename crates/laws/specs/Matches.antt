@@ -26,8 +26,8 @@ Matches t ms v (unary u s) k = (i : ℕ) × (named k (entryAt t k) ≡ answer (O
 Matches t ms v (binary o s s′) k =
     (i : ℕ) × (j : ℕ) × (named k (entryAt t k) ≡ answer (Operation.binary o i j)) × Matches t ms v s i × Matches t ms v s′ j
 
--- "Its row is then the period and distance in its heading and that many cells as the period says, from its start on; the start
--- isn't compared."
+-- "Its row is then the period and distance in its heading and that many cells as the period says, from its start on; the
+-- start isn't compared."
 abbrev pub EqualRows : Row → Row → Type 0
 EqualRows r s = (r .period ≡ s .period) × (r .distance ≡ s .distance) × (r .cells ≡ s .cells)
 

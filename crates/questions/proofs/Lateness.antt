@@ -1,4 +1,5 @@
--- Lateness on a granule of any row that is handed in, in terms of the meaning: when each reply is given. The order is "13 .. then 14, 18, 15".
+-- Lateness on a granule of any row that is handed in, in terms of the meaning: when each reply is given. The order is
+-- "13 .. then 14, 18, 15".
 -- Assumes nothing.
 use mathlib.Core.Path.{_≡_}
 use mathlib.Core.Logic.{_↔_, Iff·rfl, Iff·trans}
@@ -47,7 +48,8 @@ module _ (r : Row) (z d : ℤ) (a : Allowance) where
       refused-here 18 (F.isAllowed a) _ (not-behind 18 15 (has r z) _ (λ e. omega arith) no-refusal) Iff·rfl)))
       (λ (p, (l, n)). (p, l, n), λ (p, l, n). (p, (l, n)))
 
-  pub late-15 : (mayBeLate r z d a ≡ refused 15) ↔ ((sound r ≡ true) × InLimits × (F.isAllowed a ≡ true) × ¬ (Has (meant r) z))
+  pub late-15 : (mayBeLate r z d a ≡ refused 15)
+      ↔ ((sound r ≡ true) × InLimits × (F.isAllowed a ≡ true) × ¬ (Has (meant r) z))
   unfolding mayBeLate
   late-15 = Iff·trans
       (behind 13 (sound r) _ _ (refused-apart (λ e. omega arith)) Iff·rfl (λ p.
@@ -58,11 +60,13 @@ module _ (r : Row) (z d : ℤ) (a : Allowance) where
 
   -- "Yes exactly if d is not above it"
   pub late-answer : (b : Bool) → (mayBeLate r z d a ≡ answer b)
-      ↔ ((sound r ≡ true) × InLimits × (F.isAllowed a ≡ true) × Has (meant r) z × (F.mayBeLate (up d) (granuleLength r z) a ≡ b))
+      ↔ ((sound r ≡ true) × InLimits × (F.isAllowed a ≡ true) × Has (meant r) z
+      × (F.mayBeLate (up d) (granuleLength r z) a ≡ b))
   unfolding mayBeLate
   late-answer b = Iff·trans
       (behind 13 (sound r) _ _ no-answer Iff·rfl (λ p.
       behind 14 (inRange z && between (pos 0) (pos lateLimit) d) _ _ no-answer Iff·rfl (λ l.
       behind 18 (F.isAllowed a) _ _ no-answer Iff·rfl (λ w.
-      behind 15 (has r z) _ _ no-answer (has-iff r (sound-valid r p) z) (λ k. answer-iff (F.mayBeLate (up d) (granuleLength r z) a) b)))))
+      behind 15 (has r z) _ _ no-answer (has-iff r (sound-valid r p) z)
+      (λ k. answer-iff (F.mayBeLate (up d) (granuleLength r z) a) b)))))
       (λ (p, (l, (w, (k, e)))). (p, l, w, k, e), λ (p, l, w, k, e). (p, (l, (w, (k, e)))))
