@@ -2,7 +2,6 @@
 use mathlib.Core.Path.{_≡_, refl, ap, ap₂}
 use Rattle.calendar.specs.Operation.{Operation, mapOperation}
 use Rattle.calendar.specs.Operation.Operation.{bottom, unary, binary}
-pub use Rattle.granules.proofs.Replies.{require-answer}
 use Rattle.algebra.specs.Ready.{Operands}
 use Rattle.algebra.specs.Factor.{Factor}
 

@@ -24,7 +24,7 @@ use Rattle.algebra.specs.TableMeaning.TableReply.{means}
 use Rattle.algebra.specs.TableMeaning.TableMeans.{entries}
 use Rattle.algebra.specs.Represents.{Represents}
 use Rattle.algebra.specs.Agrees.{RepresentsAll}
-use Rattle.algebra.proofs.Operations.{require-answer}
+use Rattle.granules.proofs.Replies.{require-answer}
 use Rattle.algebra.proofs.Demand2.{represents-length, represents-at, stored-sound, stored-fit}
 use Rattle.conversion.specs.Shows.{ShowsRefusal, ShowsRows}
 use Rattle.conversion.specs.declared.Conversion.the-variants.{Refused, Converted}

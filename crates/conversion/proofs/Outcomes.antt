@@ -21,7 +21,7 @@ use Rattle.calendar.specs.Stored.{joined, poolAfter, headingsAfter}
 use Rattle.calendar.specs.Lists.{filled}
 use Rattle.granules.proofs.Tests.{and-iff, eqb-iff, leb-iff}
 use Rattle.granules.proofs.Sound.{sound-valid}
-use Rattle.algebra.proofs.Operations.{require-answer}
+use Rattle.granules.proofs.Replies.{require-answer}
 use Rattle.algebra.proofs.Stored.{joined-length}
 use Rattle.algebra.proofs.Steps.{afterEntry, entries-zero, entries-suc, afterTable, outcome-is}
 use Rattle.calendar.specs.declared.Refusal.{Refusal}

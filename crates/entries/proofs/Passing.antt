@@ -15,7 +15,7 @@ use Rattle.calendar.specs.Reply.Reply.{answer}
 use Rattle.calendar.specs.Limits.{between, labelLimit, million}
 use Rattle.calendar.specs.Table.{Entry, zero?, earlier, named, factor, label, altering, picking}
 use Rattle.granules.proofs.Tests.{true≢false, and-iff, or-iff, not-iff, false-iff, leZ-iff, ltb-iff, leb-iff, equal-iff}
-use Rattle.algebra.proofs.Operations.{require-answer}
+use Rattle.granules.proofs.Replies.{require-answer}
 use Rattle.algebra.proofs.Working.{inRange-iff}
 use Rattle.kinds.specs.declared.Pick.{Pick}
 use Rattle.kinds.specs.Limits.{PickLimits, Limits}

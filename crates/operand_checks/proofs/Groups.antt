@@ -16,7 +16,7 @@ use Rattle.calendar.specs.Reply.Reply.{refused, answer}
 use Rattle.sizes.proofs.Whole.{group-period-is}
 use Rattle.operand_checks.specs.declared.Extent.{Extent}
 use Rattle.operand_checks.specs.Shared.{fitted, groupExtent, grouped}
-use Rattle.operand_checks.proofs.Replies.{passed, failed}
+use Rattle.granules.proofs.Replies.{passed, failed}
 
 group-no-shorter : (a : Turn) (x : ℕ) → 1 ≤ x → a .period ≤ periodUnary (group x) a
 group-no-shorter a x h =

@@ -17,7 +17,6 @@ use Rattle.calendar.specs.Distance.{size}
 use Rattle.calendar.specs.Checks.{fullOperands, aligned, alignedAs, emptied}
 use Rattle.calendar.specs.Reply.{Reply, require}
 use Rattle.calendar.specs.Reply.Reply.{answer}
-pub use Rattle.granules.proofs.Replies.{passed, failed}
 use Rattle.operand_checks.specs.declared.Extent.{Extent}
 use Rattle.operand_checks.specs.Admission.{admission}
 use Rattle.operand_checks.specs.Shared.{wholeTurn, fitted, grouped, spanned, alterExtent, behindSpan}

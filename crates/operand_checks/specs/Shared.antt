@@ -16,7 +16,6 @@ use Rattle.calendar.specs.Limits.{poolLimit}
 use Rattle.calendar.specs.Reply.{Reply, require}
 use Rattle.calendar.specs.Reply.Reply.{answer}
 use Rattle.sizes.specs.declared.Turn.{Turn}
-pub use Rattle.alignment.specs.Fits.{alignmentOf}
 use Rattle.operand_checks.specs.Admission.{extent}
 use Rattle.operand_checks.specs.declared.Extent.{Extent}
 

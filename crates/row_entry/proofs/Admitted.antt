@@ -20,7 +20,8 @@ use Rattle.granules.proofs.Tests.{not-iff, false-iff}
 use Rattle.granules.proofs.Sound.{sound-valid}
 use Rattle.algebra.specs.Ready.{Operands, Ready}
 use Rattle.algebra.specs.Factor.{Factor}
-use Rattle.algebra.proofs.Operations.{operands-weaken, require-answer}
+use Rattle.granules.proofs.Replies.{require-answer}
+use Rattle.algebra.proofs.Operations.{operands-weaken}
 use Rattle.algebra.proofs.OperandChecks.{fullOperands-iff, aligned-iff}
 use Rattle.algebra.proofs.EmptiedCheck.{emptied-iff}
 use Rattle.algebra.proofs.Converted.{converted-checks}

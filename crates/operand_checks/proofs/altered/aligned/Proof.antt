@@ -22,7 +22,8 @@ use Rattle.operand_checks.specs.declared.Extent.{Extent}
 use Rattle.operand_checks.specs.Shared.{fitted, alterExtent, behindSpan}
 use Rattle.operand_checks.proofs.Naturals.{up-mono}
 use Rattle.operand_checks.proofs.Kept.{known, fine-positive, fine-at-least}
-use Rattle.operand_checks.proofs.Replies.{passed, failed, behind-is}
+use Rattle.granules.proofs.Replies.{passed, failed}
+use Rattle.operand_checks.proofs.Replies.{behind-is}
 use Rattle.operand_checks.proofs.altered.aligned.Statement.{statement}
 use Rattle.operand_checks.proofs.altered.aligned.Tie as tie
 

@@ -20,7 +20,8 @@ use Rattle.alter_granules.specs.Given.{altering}
 use Rattle.operand_checks.specs.Admission.{admission}
 use Rattle.operand_checks.specs.Shared.{behindSpan}
 use Rattle.operand_checks.proofs.Spans.{capped-past, capped-passes, capped-half, capped-fits, capped-spanned}
-use Rattle.operand_checks.proofs.Replies.{passed, failed, alter-is}
+use Rattle.granules.proofs.Replies.{passed, failed}
+use Rattle.operand_checks.proofs.Replies.{alter-is}
 use Rattle.operand_checks.proofs.altered.alter.Statement.{statement}
 use Rattle.operand_checks.proofs.altered.alter.Tie as tie
 

@@ -24,7 +24,8 @@ use Rattle.operand_checks.specs.Shared.{turnFor}
 use Rattle.operand_checks.proofs.Naturals.{Natural, natural, up-mono, stored}
 use Rattle.operand_checks.proofs.Alters.{x-fits, z-fits, alterable, fine-fits, distance-short}
 use Rattle.operand_checks.proofs.Spans.{capped-past, capped-passes, capped-half, capped-fits}
-use Rattle.operand_checks.proofs.Replies.{passed, failed, same-extent}
+use Rattle.granules.proofs.Replies.{passed, failed}
+use Rattle.operand_checks.proofs.Replies.{same-extent}
 use Rattle.operand_checks.proofs.altered.sized.Statement.{statement}
 use Rattle.operand_checks.proofs.altered.sized.Tie as tie
 

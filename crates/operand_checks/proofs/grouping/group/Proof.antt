@@ -9,7 +9,8 @@ use Rattle.calendar.specs.Meaning.{Row}
 use Rattle.calendar.specs.Granules.{full}
 use Rattle.calendar.specs.Questions.{given}
 use Rattle.alignment.proofs.Rising.{limited}
-use Rattle.operand_checks.proofs.Replies.{passed, failed, group-is}
+use Rattle.granules.proofs.Replies.{passed, failed}
+use Rattle.operand_checks.proofs.Replies.{group-is}
 use Rattle.operand_checks.proofs.grouping.group.Statement.{statement}
 use Rattle.operand_checks.proofs.grouping.group.Tie as tie
 

@@ -8,7 +8,8 @@ use Rattle.integers.proofs.Machine.{plain}
 use Rattle.calendar.specs.Meaning.{Row}
 use Rattle.calendar.specs.Granules.{full}
 use Rattle.calendar.specs.Questions.{given}
-use Rattle.operand_checks.proofs.Replies.{passed, failed, anchor-is}
+use Rattle.granules.proofs.Replies.{passed, failed}
+use Rattle.operand_checks.proofs.Replies.{anchor-is}
 use Rattle.operand_checks.proofs.spanning.anchor.Statement.{statement}
 use Rattle.operand_checks.proofs.spanning.anchor.Tie as tie
 

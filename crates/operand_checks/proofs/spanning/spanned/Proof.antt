@@ -16,9 +16,10 @@ use Rattle.calendar.specs.Checks.{alignedAs}
 use Rattle.calendar.specs.Questions.{given}
 use Rattle.alignment.proofs.Rising.{limited}
 use Rattle.calendar.specs.Reply.Reply.{answer}
-use Rattle.operand_checks.specs.Shared.{alignmentOf, overSpan}
+use Rattle.alignment.specs.Fits.{alignmentOf}
+use Rattle.operand_checks.specs.Shared.{overSpan}
 use Rattle.operand_checks.proofs.Spans.{capped-past, capped-passes, capped-half, capped-fits, capped-spanned}
-use Rattle.operand_checks.proofs.Replies.{passed, failed}
+use Rattle.granules.proofs.Replies.{passed, failed}
 use Rattle.operand_checks.proofs.spanning.spanned.Statement.{statement}
 use Rattle.operand_checks.proofs.spanning.spanned.Tie as tie
 
