@@ -21,7 +21,7 @@
 //     6   select-down          a position, not 0  how many            of first's slots in each of second's: y from the
 //                                                                     x-th on, from the end if x < 0
 //     7   select-up                                                   first's slots that hold a whole slot of second
-//     8   select-intersecting  a position, not 0  how many            of first's slots that meet each of second's: y
+//     8   select-by-meeting    a position, not 0  how many            of first's slots that meet each of second's: y
 //                                                                     from the x-th on
 //     9   union, 10 intersection, 11 difference                       by labels
 //     12  renumber first       a label                                the labels one by one; the least that is not

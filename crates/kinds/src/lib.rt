@@ -20,7 +20,7 @@ pub struct Pick {
     pub y: i64,
 }
 
-// The kinds select-down, select-up and select-intersecting.
+// The kinds select-down, select-up and select-by-meeting.
 pub enum Selection {
     Down(Pick),
     Up,
