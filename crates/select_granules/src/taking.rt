@@ -4,6 +4,7 @@ ghost use mathlib.Core.Path.{_≡_};
 ghost use mathlib.Core.Option.{some};
 ghost use Prim.Native.Nat.{_^_};
 ghost use lib.IntN.{pos};
+ghost use lib.Signed.{_≤ℤ_};
 ghost use lib.ListN.{length};
 ghost use Rattle.calendar.specs.Meaning.{meant};
 ghost use Rattle.calendar.specs.Algebra.{pickStart};
@@ -11,10 +12,11 @@ ghost use Rattle.calendar.specs.Questions.{given};
 ghost use Rattle.cursors.specs.Found.{Sound, Within};
 ghost use Rattle.cursors.specs.Cursor.{cursorAt};
 ghost use Rattle.containment.specs.First.{FirstInstant};
-ghost use Rattle.candidates.specs.Tallies.{candidates};
+ghost use Rattle.candidates.specs.Tallies.{candidates, lastOr};
 ghost use Rattle.kinds.specs.Limits.{PickLimits};
 ghost use Rattle.select_granules.specs.Memos.{Picks, pickedOf};
 use super::Picked;
+use candidates::Tally;
 use candidates::ends::Instant;
 use cursors::Cursor;
 use kinds::Pick;
@@ -29,6 +31,44 @@ fn picked_of(i: i64, low: i64, high: i64) -> Picked
         low,
         high,
     }
+}
+
+// The tally of all the granules in question for b's granule i, whose first instant is `first`.
+fn counted_all(
+    whole: bool,
+    i: i64,
+    first: Instant,
+    a_cells: &[i32],
+    a_period: i64,
+    a_distance: i64,
+    b_cells: &[i32],
+    b_period: i64,
+    b_distance: i64,
+) -> Tally
+    requires { ⌜ Sound «a_period» «a_distance» (now «a_cells») ⌝ }
+    requires { ⌜ Sound «b_period» «b_distance» (now «b_cells») ⌝ }
+    requires { ⌜ FirstInstant (given «b_period» «b_distance» (now «b_cells»)) i (first .at) ⌝ }
+    requires { ⌜ first .own ≡ cursorAt (given «b_period» «b_distance» (now «b_cells»)) (first .at) ⌝ }
+    requires { ⌜ first .other ≡ cursorAt (given «a_period» «a_distance» (now «a_cells»)) (first .at) ⌝ }
+    ensures count { λ r. ⌜ r .count ≡ pos (length (candidates whole (given «a_period» «a_distance» (now («a_cells» .entry))) (given «b_period» «b_distance» (now («b_cells» .entry))) i)) ⌝ }
+    ensures last { λ r. ⌜ r .high ≡ lastOr (pos 0) (candidates whole (given «a_period» «a_distance» (now («a_cells» .entry))) (given «b_period» «b_distance» (now («b_cells» .entry))) i) ⌝ }
+    ensures few { λ r. ⌜ r .count ≤ℤ «b_period» ⌝ }
+{
+    candidates::tallied(
+        whole,
+        i,
+        first.at,
+        first.other,
+        first.own,
+        1,
+        b_period + 1,
+        a_cells,
+        a_period,
+        a_distance,
+        b_cells,
+        b_period,
+        b_distance,
+    )
 }
 
 // The position at which Pick starts among the granules in question for b's granule i, whose first instant is `first`: where it counts from the end,
@@ -57,14 +97,10 @@ fn pick_start(
     if pick.x > 0 {
         return pick.x;
     }
-    let all = candidates::tallied(
+    let all = counted_all(
         whole,
         i,
-        first.at,
-        first.other,
-        first.own,
-        1,
-        b_period + 1,
+        first,
         a_cells,
         a_period,
         a_distance,
@@ -73,6 +109,43 @@ fn pick_start(
         b_distance,
     );
     all.count + pick.x + 1
+}
+
+// What Pick takes for b's granule i, whose first instant is `first`, where it starts at the last of the granules in
+// question: that one, if there is any.
+fn picked_last(
+    whole: bool,
+    i: i64,
+    first: Instant,
+    a_cells: &[i32],
+    a_period: i64,
+    a_distance: i64,
+    b_cells: &[i32],
+    b_period: i64,
+    b_distance: i64,
+) -> Picked
+    requires { ⌜ Sound «a_period» «a_distance» (now «a_cells») ⌝ }
+    requires { ⌜ Sound «b_period» «b_distance» (now «b_cells») ⌝ }
+    requires { ⌜ FirstInstant (given «b_period» «b_distance» (now «b_cells»)) i (first .at) ⌝ }
+    requires { ⌜ first .own ≡ cursorAt (given «b_period» «b_distance» (now «b_cells»)) (first .at) ⌝ }
+    requires { ⌜ first .other ≡ cursorAt (given «a_period» «a_distance» (now «a_cells»)) (first .at) ⌝ }
+    ensures { λ r. ⌜ r ≡ pickedOf i (lastOr (pos 1) (candidates whole (given «a_period» «a_distance» (now («a_cells» .entry))) (given «b_period» «b_distance» (now («b_cells» .entry))) i)) (lastOr (pos 0) (candidates whole (given «a_period» «a_distance» (now («a_cells» .entry))) (given «b_period» «b_distance» (now («b_cells» .entry))) i)) ⌝ }
+{
+    let all = counted_all(
+        whole,
+        i,
+        first,
+        a_cells,
+        a_period,
+        a_distance,
+        b_cells,
+        b_period,
+        b_distance,
+    );
+    if all.count == 0 {
+        return picked_of(i, 1, 0);
+    }
+    picked_of(i, all.high, all.high)
 }
 
 // What Pick takes for b's granule i, of which t is an instant: of a's granules inside it if `whole`, else of those that meet it.
@@ -113,6 +186,19 @@ pub fn picked_at(
         a_period,
         a_distance,
     );
+    if pick.x == -1 {
+        return picked_last(
+            whole,
+            i,
+            first,
+            a_cells,
+            a_period,
+            a_distance,
+            b_cells,
+            b_period,
+            b_distance,
+        );
+    }
     let low = pick_start(
         pick,
         whole,

@@ -43,32 +43,20 @@ returns c =
 
 -- ---- from the end
 
--- one more than there can be
-more-fits : (s : tie.Start) → SFits w64 (s .args .b-period +ℤ pos 1)
-more-fits s = let n = b-numbers s in n .period-is ∴ n .high ∴ simp ints (omega arith)
-
-add-tallied : tie.Need-add-tallied
-add-tallied c =
+counted-all-requires : tie.Need-counted-all-requires
+counted-all-requires c κs =
     let s = c .before .before .before in
-    let q = s .fits .b-period in
-    simp plain (more-fits s)
-
-tallied-requires : tie.Need-tallied-requires
-tallied-requires c κs =
-    let s = c .before .before .before .before in
     let p = s .fits .a-period in
     let n = s .fits .a-distance in
     let q = s .fits .b-period in
     let m = s .fits .b-distance in
     let i = s .fits .i in
-    let g = s .pre .1 .1 .1 in
-    let t : SFits w64 (s .args .first .at) = g .0 .near .0 ∴ g .0 .near .1 ∴ simp ints (omega arith) in
-    simp plain (s .pre .0, (s .pre .1 .0, (g .0, (g .1 .1, g .1 .0))))
+    simp plain (s .pre .0, (s .pre .1 .0, s .pre .1 .1 .1))
 
-abbrev begun : tie.After-tallied → tie.Start
-begun c = c .before .before .before .before .before
+abbrev begun : tie.After-counted-all → tie.Start
+begun c = c .before .before .before .before
 
-count-is : (c : tie.After-tallied) → let s = begun c in let n = c .tallied .result .count in
+count-is : (c : tie.After-counted-all) → let s = begun c in let n = c .counted-all .result .count in
     (n ≡ pos (length (asked s))) × ((pos 0 ≤ℤ n) × (n ≤ℤ s .args .b-period))
 count-is c =
     let s = begun c in
@@ -77,9 +65,8 @@ count-is c =
     let q = s .fits .b-period in
     let m = s .fits .b-distance in
     let i = s .fits .i in
-    let o = more-fits s in
-    let e = simp plain at (c .tallied .ensures .1 .1) in
-    (e .0 (e .1 .1 ∴ simp ints (omega arith)), e .1)
+    let e = simp plain at (c .counted-all .ensures) in
+    (e .0, (e .0 ∴ simp ints (omega arith), e .1 .1))
 
 -- the numbers on the way
 record Sums (n x : ℤ) : Type 0 where
@@ -87,7 +74,7 @@ record Sums (n x : ℤ) : Type 0 where
   pub sum-fits : SFits w64 (n +ℤ x)
   pub start-fits : SFits w64 (n +ℤ x +ℤ pos 1)
 
-sums : (c : tie.After-tallied) → Sums (c .tallied .result .count) (begun c .args .pick .x)
+sums : (c : tie.After-counted-all) → Sums (c .counted-all .result .count) (begun c .args .pick .x)
 sums c =
     let s = begun c in
     let l = s .pre .1 .1 .0 in
@@ -99,7 +86,7 @@ sums c =
       start-fits = f .0 ∴ f .1 ∴ n .period-is ∴ n .high ∴ l .x-low ∴ l .x-high ∴ simp ints (omega arith);
     }
 
-abbrev all : tie.After-struct-told5 → tie.After-tallied
+abbrev all : tie.After-struct-told4 → tie.After-counted-all
 all c = c .before .before .before .before
 
 add-result : tie.Need-add-result
@@ -129,7 +116,7 @@ returns-2 c =
     let o = sums d .start-fits in
     let f = count-is d in
     let b = b-numbers s in
-    let h : s .args .pick .x ≤ℤ pos 0 = simp plain at (d .before .before .if1 .left) in
+    let h : s .args .pick .x ≤ℤ pos 0 = simp plain at (d .before .if1 .left) in
     let t = start-below (s .args .pick .x) (length (asked s)) (below h (l .not-zero)) in
     simp plain (
       f .0 ∴ t ∴ simp ints (omega arith),
@@ -137,4 +124,4 @@ returns-2 c =
     )
 
 pub pick-start-spec : {M : Type 1} → statement M
-pick-start-spec = tie.close (tie.spec returns add-tallied tallied-requires add-result add-result-2 returns-2)
+pick-start-spec = tie.close (tie.spec returns counted-all-requires add-result add-result-2 returns-2)

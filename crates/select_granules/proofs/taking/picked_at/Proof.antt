@@ -1,18 +1,18 @@
--- `select_granules::taking::picked_at` meets its contract: Pick takes what the tally from its start on says.
+-- `select_granules::taking::picked_at` meets its contract: Pick takes the last alone, or what the tally from its start on says.
 -- Assumes nothing.
 use borrow.Author.Needs.{sfits-of}
 use mathlib.Core.Path.{_≡_, refl, _∙_, ap}
 use mathlib.Core.List.{List}
 use Prim.Native.Nat.{_^_}
 use native.Mathlib.Omega.{arith}
-use lib.IntN.{ℤ, pos, _+ℤ_, _-ℤ_}
+use lib.IntN.{ℤ, pos, negsuc, _+ℤ_, _-ℤ_}
 use lib.ListN.{length}
 use mir.Syntax.{w64}
 use mir.Val.{SFits}
 use Rattle.integers.proofs.Linear.{ints, _∴_}
-use Rattle.integers.proofs.Machine.{plain}
+use Rattle.integers.proofs.Machine.{plain, test-eq}
 use Rattle.calendar.specs.Meaning.{Row}
-use Rattle.calendar.specs.Algebra.{pickStart}
+use Rattle.calendar.specs.Algebra.{Rising, pickStart}
 use Rattle.calendar.specs.Questions.{given}
 use Rattle.granules.specs.Valid.{Valid}
 use Rattle.granules.proofs.Tests.{true≢false}
@@ -21,12 +21,12 @@ use Rattle.cursors.specs.Found.{Within}
 use Rattle.cursors.proofs.Numbers.{valid}
 use Rattle.cursors.proofs.Bounds.{first-bounds}
 use Rattle.containment.specs.First.{FirstInstant}
-use Rattle.candidates.specs.Tallies.{candidates, tallyOf}
+use Rattle.candidates.specs.Tallies.{candidates, lastOr, tallyOf}
 use Rattle.candidates.proofs.Tallying.{tally-fields}
 use Rattle.candidates.proofs.Candidates.{candidates-lists}
 use Rattle.select_granules.specs.declared.Picked.{Picked}
 use Rattle.select_granules.specs.Memos.{pickedOf}
-use Rattle.select_granules.proofs.Starts.{picks}
+use Rattle.select_granules.proofs.Starts.{picks, picks-last}
 use Rattle.select_granules.proofs.taking.picked_at.Statement.{statement}
 use Rattle.select_granules.proofs.taking.picked_at.Tie as tie
 
@@ -73,10 +73,55 @@ begins c =
     let e = simp plain at (c .began .ensures .0) in
     record { near = c .began .ensures .1 .1 .1; label = rw e (f .0); least = rw e (first-at-most r (b-rules s) (s .args .i)) }
 
+-- ---- the last alone
+
+picked-last-requires : tie.Need-picked-last-requires
+picked-last-requires c κs =
+    let d = c .before .before .before in
+    let s = d .before in
+    let p = s .fits .a-period in
+    let n = s .fits .a-distance in
+    let q = s .fits .b-period in
+    let m = s .fits .b-distance in
+    let i = s .fits .i in
+    let e = d .began .ensures .1 in
+    simp plain (s .pre .0, (s .pre .1 .0, (begins d, (simp plain at (e .0), simp plain at (e .1 .0)))))
+
+from-last : (c : tie.Then1) → c .before .before .before .before .args .pick .x ≡ negsuc 0
+from-last c =
+    let s = c .before .before .before .before in
+    let l = s .pre .1 .1 .0 in
+    test-eq w64 (s .args .pick .x) (negsuc 0) (l .x-low ∴ l .x-high ∴ simp ints (omega arith)) (simp ints (omega arith)) .0 (c .if1 .taken)
+
+rises : (s : tie.Start) → Rising (asked s)
+rises s = candidates-lists (s .args .whole) (a-row s) (b-row s) (a-rules s) (b-rules s) (s .args .i) .rising
+
+last-is : (c : tie.After-picked-last) → let s = c .before .before .before .before .before in
+    c .picked-last .result ≡ pickedOf (s .args .i) (lastOr (pos 1) (asked s)) (lastOr (pos 0) (asked s))
+last-is c =
+    let s = c .before .before .before .before .before in
+    let p = s .fits .a-period in
+    let n = s .fits .a-distance in
+    let q = s .fits .b-period in
+    let m = s .fits .b-distance in
+    let i = s .fits .i in
+    simp plain at (c .picked-last .ensures)
+
+returns : tie.Need-returns
+returns c =
+    let s = c .before .before .before .before .before in
+    let e = last-is c in (
+      (ap (λ (m : Picked). m .known) e, ap (λ (m : Picked). m .of) e),
+      picks-last (s .args .pick) (asked s) (rises s) (from-last (c .before)) (s .pre .1 .1 .0 .y-low) (c .picked-last .result)
+          (ap (λ (m : Picked). m .low) e)
+          (ap (λ (m : Picked). m .high) e),
+    )
+
 -- ---- the positions
 
 pick-start-requires : tie.Need-pick-start-requires
-pick-start-requires c κs =
+pick-start-requires d κs =
+    let c = d .before .before .before in
     let s = c .before in
     let p = s .fits .a-period in
     let n = s .fits .a-distance in
@@ -86,10 +131,13 @@ pick-start-requires c κs =
     let e = c .began .ensures .1 in
     simp plain (s .pre .0, (s .pre .1 .0, (s .pre .1 .1 .0, (begins c, (simp plain at (e .0), simp plain at (e .1 .0))))))
 
-low-is : (c : tie.After-pick-start) → let s = c .before .before in
+abbrev entered : tie.After-pick-start → tie.Start
+entered c = c .before .before .before .before .before
+
+low-is : (c : tie.After-pick-start) → let s = entered c in
     (c .pick-start .result ≡ pickStart (s .args .pick .x) (length (asked s))) × Within (2 ^ 23) (c .pick-start .result)
 low-is c =
-    let s = c .before .before in
+    let s = entered c in
     let p = s .fits .a-period in
     let n = s .fits .a-distance in
     let q = s .fits .b-period in
@@ -104,9 +152,9 @@ record Sums (low y : ℤ) : Type 0 where
   pub sum-fits : SFits w64 (low +ℤ y)
   pub high-fits : SFits w64 (low +ℤ y -ℤ pos 1)
 
-sums : (c : tie.After-pick-start) → Sums (c .pick-start .result) (c .before .before .args .pick .y)
+sums : (c : tie.After-pick-start) → Sums (c .pick-start .result) (entered c .args .pick .y)
 sums c =
-    let l = c .before .before .pre .1 .1 .0 in
+    let l = entered c .pre .1 .1 .0 in
     let n = low-is c .1 in
     record {
       low-fits = n .0 ∴ n .1 ∴ simp ints (omega arith);
@@ -134,7 +182,7 @@ sub-tallied c =
 
 tallied-requires : tie.Need-tallied-requires
 tallied-requires c κs =
-    let d = c .before .before .before .before in
+    let d = c .before .before .before .before .before .before .before in
     let s = d .before in
     let p = s .fits .a-period in
     let n = s .fits .a-distance in
@@ -152,7 +200,7 @@ abbrev started : tie.After-tallied → tie.After-pick-start
 started c = c .before .before .before .before
 
 abbrev begun : tie.After-tallied → tie.Start
-begun c = started c .before .before
+begun c = entered (started c)
 
 abbrev low : tie.After-tallied → ℤ
 low c = started c .pick-start .result
@@ -179,23 +227,22 @@ picked-is : (c : tie.After-picked-of) → let t = c .before .before .before in c
 picked-is c =
     let t = c .before .before .before in
     let i = begun t .fits .i in
-    let l : SFits w64 (t .tallied .result .low) = sfits-of (c .before .before .struct-told3 .given .1 .0 .1) in
-    let h : SFits w64 (t .tallied .result .high) = sfits-of (c .before .before .struct-told3 .given .1 .1 .0 .1) in
+    let l : SFits w64 (t .tallied .result .low) = sfits-of (c .before .before .struct-told4 .given .1 .0 .1) in
+    let h : SFits w64 (t .tallied .result .high) = sfits-of (c .before .before .struct-told4 .given .1 .1 .0 .1) in
     simp plain at (c .picked-of .ensures)
 
-returns : tie.Need-returns
-returns c =
+returns-2 : tie.Need-returns-2
+returns-2 c =
     let t = c .before .before .before in
     let s = begun t in
     let e = picked-is c in
     let f = ends-are t in
-    let all = tally-fields (low t) (high t) (asked s) (tallyOf (low t) (high t) (asked s)) refl in
-    let r = candidates-lists (s .args .whole) (a-row s) (b-row s) (a-rules s) (b-rules s) (s .args .i) .rising in (
+    let all = tally-fields (low t) (high t) (asked s) (tallyOf (low t) (high t) (asked s)) refl in (
       (ap (λ (m : Picked). m .known) e, ap (λ (m : Picked). m .of) e),
-      picks (s .args .pick) (asked s) r (low t) (high t) (low-is (started t) .0) refl (s .pre .1 .1 .0 .y-low) (c .picked-of .result)
+      picks (s .args .pick) (asked s) (rises s) (low t) (high t) (low-is (started t) .0) refl (s .pre .1 .1 .0 .y-low) (c .picked-of .result)
           (ap (λ (m : Picked). m .low) e ∙ f .0 ∙ all .low-is)
           (ap (λ (m : Picked). m .high) e ∙ f .1 ∙ all .high-is),
     )
 
 pub picked-at-spec : {M : Type 1} → statement M
-picked-at-spec = tie.close (tie.spec began-requires pick-start-requires add-tallied sub-tallied tallied-requires picked-of-requires returns)
+picked-at-spec = tie.close (tie.spec began-requires picked-last-requires returns pick-start-requires add-tallied sub-tallied tallied-requires picked-of-requires returns-2)
