@@ -64,36 +64,43 @@ module _ (lo hi : ℤ) where
       let e = asked-iff lo hi p .1 (g ∴ simp ints (omega arith), h ∴ simp ints (omega arith)) in
       ap (λ (b : Bool). lastOr d (cond b (x ∷ []) [])) e
   last-taken p d (x ∷ y ∷ l) g h =
-      by (asked lo hi p) (positions lo hi (p +ℤ pos 1) (y ∷ l)) (λ d. last-taken (p +ℤ pos 1) d (y ∷ l) (g ∴ simp ints (omega arith)) (h ∴ simp ints (omega arith)))
+      by (asked lo hi p) (positions lo hi (p +ℤ pos 1) (y ∷ l))
+      (λ d. last-taken (p +ℤ pos 1) d (y ∷ l) (g ∴ simp ints (omega arith)) (h ∴ simp ints (omega arith)))
     where
       by : (b : Bool) (m : List ℤ) → ((d : ℤ) → lastOr d m ≡ last (y ∷ l)) → lastOr d (cond b (x ∷ m) m) ≡ last (y ∷ l)
       by true m f = last-cons d x m ∙ f x
       by false m f = f d
 
   -- and the first too, if they start there
-  first-last : (p d : ℤ) (l : List ℤ) → lo +ℤ pos 1 ≡ p +ℤ pos (length l) → lo ≤ℤ hi → firstOr d (positions lo hi p l) ≡ lastOr d l
+  first-last : (p d : ℤ) (l : List ℤ) → lo +ℤ pos 1 ≡ p +ℤ pos (length l) → lo ≤ℤ hi
+      → firstOr d (positions lo hi p l) ≡ lastOr d l
   first-last p d [] e h = refl
   first-last p d (x ∷ []) e h =
       let a = asked-iff lo hi p .1 (e ∴ simp ints (omega arith), e ∴ h ∴ simp ints (omega arith)) in
       ap (λ (b : Bool). firstOr d (cond b (x ∷ []) [])) a
   first-last p d (x ∷ y ∷ l) e h =
-      by (asked lo hi p) (positions lo hi (p +ℤ pos 1) (y ∷ l)) (λ a. asked-iff lo hi p .0 a .0 ∴ e ∴ simp ints (omega arith))
+      by (asked lo hi p) (positions lo hi (p +ℤ pos 1) (y ∷ l))
+      (λ a. asked-iff lo hi p .0 a .0 ∴ e ∴ simp ints (omega arith))
       (first-last (p +ℤ pos 1) d (y ∷ l) (e ∴ simp ints (omega arith)) h)
     where
-      by : (b : Bool) (m : List ℤ) → (b ≡ true → ⊥) → firstOr d m ≡ last (y ∷ l) → firstOr d (cond b (x ∷ m) m) ≡ last (y ∷ l)
+      by : (b : Bool) (m : List ℤ) → (b ≡ true → ⊥) → firstOr d m ≡ last (y ∷ l)
+          → firstOr d (cond b (x ∷ m) m) ≡ last (y ∷ l)
       by true m f q = absurd (f refl)
       by false m f q = q
 
 -- the last of all
-pub all-last : (hi : ℤ) (l : List ℤ) → pos (length l) ≤ℤ hi → lastOr (pos 0) (positions (pos 1) hi (pos 1) l) ≡ lastOr (pos 0) l
+pub all-last : (hi : ℤ) (l : List ℤ) → pos (length l) ≤ℤ hi
+    → lastOr (pos 0) (positions (pos 1) hi (pos 1) l) ≡ lastOr (pos 0) l
 all-last hi [] h = refl
-all-last hi (x ∷ l) h = last-taken (pos 1) hi (pos 1) (pos 0) (x ∷ l) (simp ints (omega arith)) (h ∴ simp ints (omega arith))
+all-last hi (x ∷ l) h =
+    last-taken (pos 1) hi (pos 1) (pos 0) (x ∷ l) (simp ints (omega arith)) (h ∴ simp ints (omega arith))
 
 -- Pick at -1 takes the last
-pub picks-last : (p : Pick) (l : List ℤ) → Rising l → p .x ≡ negsuc 0 → pos 1 ≤ℤ p .y → (m : Picked) → m .low ≡ lastOr (pos 1) l → m .high ≡ lastOr (pos 0) l → Picks p l m
+pub picks-last : (p : Pick) (l : List ℤ) → Rising l → p .x ≡ negsuc 0 → pos 1 ≤ℤ p .y
+    → (m : Picked) → m .low ≡ lastOr (pos 1) l → m .high ≡ lastOr (pos 0) l → Picks p l m
 picks-last p l r e above m b c =
-    let n : pickStart (p .x) (length l) ≡ pos (length l) = ap (λ (x : ℤ). pickStart x (length l)) e ∙ simp ints (omega arith) in
     let lo = pos (length l) in
+    let n : pickStart (p .x) (length l) ≡ lo = ap (λ (x : ℤ). pickStart x (length l)) e ∙ simp ints (omega arith) in
     let hi = lo +ℤ p .y -ℤ pos 1 in
     picks p l r lo hi (sym n) refl above m
     (b ∙ sym (first-last lo hi (pos 1) (pos 1) l (simp ints (omega arith)) (above ∴ simp ints (omega arith))))

@@ -148,6 +148,58 @@ fn picked_last(
     picked_of(i, all.high, all.high)
 }
 
+// What Pick takes for b's granule i, whose first instant is `first`: a tally of the positions from its start on.
+fn picked_from(
+    pick: Pick,
+    whole: bool,
+    i: i64,
+    first: Instant,
+    a_cells: &[i32],
+    a_period: i64,
+    a_distance: i64,
+    b_cells: &[i32],
+    b_period: i64,
+    b_distance: i64,
+) -> Picked
+    requires { ⌜ Sound «a_period» «a_distance» (now «a_cells») ⌝ }
+    requires { ⌜ Sound «b_period» «b_distance» (now «b_cells») ⌝ }
+    requires { ⌜ PickLimits pick ⌝ }
+    requires { ⌜ FirstInstant (given «b_period» «b_distance» (now «b_cells»)) i (first .at) ⌝ }
+    requires { ⌜ first .own ≡ cursorAt (given «b_period» «b_distance» (now «b_cells»)) (first .at) ⌝ }
+    requires { ⌜ first .other ≡ cursorAt (given «a_period» «a_distance» (now «a_cells»)) (first .at) ⌝ }
+    ensures known { λ r. ⌜ (r .known ≡ pos 1) × (r .of ≡ i) ⌝ }
+    ensures picks { λ r. ⌜ Picks pick (candidates whole (given «a_period» «a_distance» (now («a_cells» .entry))) (given «b_period» «b_distance» (now («b_cells» .entry))) i) r ⌝ }
+{
+    let low = pick_start(
+        pick,
+        whole,
+        i,
+        first,
+        a_cells,
+        a_period,
+        a_distance,
+        b_cells,
+        b_period,
+        b_distance,
+    );
+    let tally = candidates::tallied(
+        whole,
+        i,
+        first.at,
+        first.other,
+        first.own,
+        low,
+        low + pick.y - 1,
+        a_cells,
+        a_period,
+        a_distance,
+        b_cells,
+        b_period,
+        b_distance,
+    );
+    picked_of(i, tally.low, tally.high)
+}
+
 // What Pick takes for b's granule i, of which t is an instant: of a's granules inside it if `whole`, else of those that meet it.
 pub fn picked_at(
     pick: Pick,
@@ -199,7 +251,7 @@ pub fn picked_at(
             b_distance,
         );
     }
-    let low = pick_start(
+    picked_from(
         pick,
         whole,
         i,
@@ -210,21 +262,5 @@ pub fn picked_at(
         b_cells,
         b_period,
         b_distance,
-    );
-    let tally = candidates::tallied(
-        whole,
-        i,
-        first.at,
-        first.other,
-        first.own,
-        low,
-        low + pick.y - 1,
-        a_cells,
-        a_period,
-        a_distance,
-        b_cells,
-        b_period,
-        b_distance,
-    );
-    picked_of(i, tally.low, tally.high)
+    )
 }

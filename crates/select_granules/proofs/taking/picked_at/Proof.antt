@@ -1,32 +1,28 @@
--- `select_granules::taking::picked_at` meets its contract: Pick takes the last alone, or what the tally from its start on says.
+-- `select_granules::taking::picked_at` meets its contract: Pick takes the last alone, or what stands
+-- from its start on.
 -- Assumes nothing.
-use borrow.Author.Needs.{sfits-of}
-use mathlib.Core.Path.{_≡_, refl, _∙_, ap}
+use mathlib.Core.Path.{_≡_, refl, ap}
 use mathlib.Core.List.{List}
-use Prim.Native.Nat.{_^_}
 use native.Mathlib.Omega.{arith}
-use lib.IntN.{ℤ, pos, negsuc, _+ℤ_, _-ℤ_}
-use lib.ListN.{length}
+use lib.IntN.{ℤ, pos, negsuc}
 use mir.Syntax.{w64}
 use mir.Val.{SFits}
 use Rattle.integers.proofs.Linear.{ints, _∴_}
 use Rattle.integers.proofs.Machine.{plain, test-eq}
 use Rattle.calendar.specs.Meaning.{Row}
-use Rattle.calendar.specs.Algebra.{Rising, pickStart}
+use Rattle.calendar.specs.Algebra.{Rising}
 use Rattle.calendar.specs.Questions.{given}
 use Rattle.granules.specs.Valid.{Valid}
 use Rattle.granules.proofs.Tests.{true≢false}
 use Rattle.granules.proofs.Questions.{first-at-most}
-use Rattle.cursors.specs.Found.{Within}
 use Rattle.cursors.proofs.Numbers.{valid}
 use Rattle.cursors.proofs.Bounds.{first-bounds}
 use Rattle.containment.specs.First.{FirstInstant}
-use Rattle.candidates.specs.Tallies.{candidates, lastOr, tallyOf}
-use Rattle.candidates.proofs.Tallying.{tally-fields}
+use Rattle.candidates.specs.Tallies.{candidates, lastOr}
 use Rattle.candidates.proofs.Candidates.{candidates-lists}
 use Rattle.select_granules.specs.declared.Picked.{Picked}
 use Rattle.select_granules.specs.Memos.{pickedOf}
-use Rattle.select_granules.proofs.Starts.{picks, picks-last}
+use Rattle.select_granules.proofs.Starts.{picks-last}
 use Rattle.select_granules.proofs.taking.picked_at.Statement.{statement}
 use Rattle.select_granules.proofs.taking.picked_at.Tie as tie
 
@@ -91,7 +87,8 @@ from-last : (c : tie.Then1) → c .before .before .before .before .args .pick .x
 from-last c =
     let s = c .before .before .before .before in
     let l = s .pre .1 .1 .0 in
-    test-eq w64 (s .args .pick .x) (negsuc 0) (l .x-low ∴ l .x-high ∴ simp ints (omega arith)) (simp ints (omega arith)) .0 (c .if1 .taken)
+    let x : SFits w64 (s .args .pick .x) = l .x-low ∴ l .x-high ∴ simp ints (omega arith) in
+    test-eq w64 (s .args .pick .x) (negsuc 0) x (simp ints (omega arith)) .0 (c .if1 .taken)
 
 rises : (s : tie.Start) → Rising (asked s)
 rises s = candidates-lists (s .args .whole) (a-row s) (b-row s) (a-rules s) (b-rules s) (s .args .i) .rising
@@ -117,132 +114,29 @@ returns c =
           (ap (λ (m : Picked). m .high) e),
     )
 
--- ---- the positions
+-- ---- from the start on
 
-pick-start-requires : tie.Need-pick-start-requires
-pick-start-requires d κs =
-    let c = d .before .before .before in
-    let s = c .before in
-    let p = s .fits .a-period in
-    let n = s .fits .a-distance in
-    let q = s .fits .b-period in
-    let m = s .fits .b-distance in
-    let i = s .fits .i in
-    let e = c .began .ensures .1 in
-    simp plain (s .pre .0, (s .pre .1 .0, (s .pre .1 .1 .0, (begins c, (simp plain at (e .0), simp plain at (e .1 .0))))))
-
-abbrev entered : tie.After-pick-start → tie.Start
-entered c = c .before .before .before .before .before
-
-low-is : (c : tie.After-pick-start) → let s = entered c in
-    (c .pick-start .result ≡ pickStart (s .args .pick .x) (length (asked s))) × Within (2 ^ 23) (c .pick-start .result)
-low-is c =
-    let s = entered c in
-    let p = s .fits .a-period in
-    let n = s .fits .a-distance in
-    let q = s .fits .b-period in
-    let m = s .fits .b-distance in
-    let i = s .fits .i in
-    simp plain at (c .pick-start .ensures)
-
--- the numbers on the way
-record Sums (low y : ℤ) : Type 0 where
-  pub low-fits : SFits w64 low
-  pub y-fits : SFits w64 y
-  pub sum-fits : SFits w64 (low +ℤ y)
-  pub high-fits : SFits w64 (low +ℤ y -ℤ pos 1)
-
-sums : (c : tie.After-pick-start) → Sums (c .pick-start .result) (entered c .args .pick .y)
-sums c =
-    let l = entered c .pre .1 .1 .0 in
-    let n = low-is c .1 in
-    record {
-      low-fits = n .0 ∴ n .1 ∴ simp ints (omega arith);
-      y-fits = l .y-low ∴ l .y-high ∴ simp ints (omega arith);
-      sum-fits = n .0 ∴ n .1 ∴ l .y-low ∴ l .y-high ∴ simp ints (omega arith);
-      high-fits = n .0 ∴ n .1 ∴ l .y-low ∴ l .y-high ∴ simp ints (omega arith);
-    }
-
-add-tallied : tie.Need-add-tallied
-add-tallied c =
-    let n = sums (c .before .before) in
-    let l = n .low-fits in
-    let y = n .y-fits in
-    simp plain (n .sum-fits)
-
-sub-tallied : tie.Need-sub-tallied
-sub-tallied c =
-    let n = sums (c .before .before) in
-    let l = n .low-fits in
-    let y = n .y-fits in
-    let e = n .sum-fits in
-    simp plain (n .high-fits)
-
--- ---- what stands there
-
-tallied-requires : tie.Need-tallied-requires
-tallied-requires c κs =
-    let d = c .before .before .before .before .before .before .before in
+picked-from-requires : tie.Need-picked-from-requires
+picked-from-requires c κs =
+    let d = c .before .before .before in
     let s = d .before in
     let p = s .fits .a-period in
     let n = s .fits .a-distance in
     let q = s .fits .b-period in
     let m = s .fits .b-distance in
     let i = s .fits .i in
-    let t = first-fits d in
     let e = d .began .ensures .1 in
-    simp plain (s .pre .0, (s .pre .1 .0, (begins d, (simp plain at (e .1 .0), simp plain at (e .0)))))
+    simp plain (s .pre .0, (s .pre .1 .0, (s .pre .1 .1 .0, (begins d, (simp plain at (e .0), simp plain at (e .1 .0))))))
 
-picked-of-requires : tie.Need-picked-of-requires
-picked-of-requires c κs = tt
-
-abbrev started : tie.After-tallied → tie.After-pick-start
-started c = c .before .before .before .before
-
-abbrev begun : tie.After-tallied → tie.Start
-begun c = entered (started c)
-
-abbrev low : tie.After-tallied → ℤ
-low c = started c .pick-start .result
-
-abbrev high : tie.After-tallied → ℤ
-high c = low c +ℤ begun c .args .pick .y -ℤ pos 1
-
-ends-are : (c : tie.After-tallied) → let all = tallyOf (low c) (high c) (asked (begun c)) in
-    (c .tallied .result .low ≡ all .low) × (c .tallied .result .high ≡ all .high)
-ends-are c =
-    let s = begun c in
+returns-2 : tie.Need-returns-2
+returns-2 c =
+    let s = c .before .before .before .before .before in
     let p = s .fits .a-period in
     let n = s .fits .a-distance in
     let q = s .fits .b-period in
     let m = s .fits .b-distance in
     let i = s .fits .i in
-    let x = sums (started c) .low-fits in
-    let y = sums (started c) .y-fits in
-    let e = sums (started c) .sum-fits in
-    let h = sums (started c) .high-fits in
-    (simp plain at (c .tallied .ensures .0), simp plain at (c .tallied .ensures .1 .0))
-
-picked-is : (c : tie.After-picked-of) → let t = c .before .before .before in c .picked-of .result ≡ pickedOf (begun t .args .i) (t .tallied .result .low) (t .tallied .result .high)
-picked-is c =
-    let t = c .before .before .before in
-    let i = begun t .fits .i in
-    let l : SFits w64 (t .tallied .result .low) = sfits-of (c .before .before .struct-told4 .given .1 .0 .1) in
-    let h : SFits w64 (t .tallied .result .high) = sfits-of (c .before .before .struct-told4 .given .1 .1 .0 .1) in
-    simp plain at (c .picked-of .ensures)
-
-returns-2 : tie.Need-returns-2
-returns-2 c =
-    let t = c .before .before .before in
-    let s = begun t in
-    let e = picked-is c in
-    let f = ends-are t in
-    let all = tally-fields (low t) (high t) (asked s) (tallyOf (low t) (high t) (asked s)) refl in (
-      (ap (λ (m : Picked). m .known) e, ap (λ (m : Picked). m .of) e),
-      picks (s .args .pick) (asked s) (rises s) (low t) (high t) (low-is (started t) .0) refl (s .pre .1 .1 .0 .y-low) (c .picked-of .result)
-          (ap (λ (m : Picked). m .low) e ∙ f .0 ∙ all .low-is)
-          (ap (λ (m : Picked). m .high) e ∙ f .1 ∙ all .high-is),
-    )
+    simp plain at (c .picked-from .ensures)
 
 pub picked-at-spec : {M : Type 1} → statement M
-picked-at-spec = tie.close (tie.spec began-requires picked-last-requires returns pick-start-requires add-tallied sub-tallied tallied-requires picked-of-requires returns-2)
+picked-at-spec = tie.close (tie.spec began-requires picked-last-requires returns picked-from-requires returns-2)

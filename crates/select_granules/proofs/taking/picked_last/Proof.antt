@@ -2,12 +2,13 @@
 -- Assumes nothing.
 use borrow.Author.Needs.{sfits-of}
 use mathlib.Core.Path.{_≡_, refl, sym, _∙_, ap₂}
+use mathlib.Core.Logic.{_↔_}
 use mathlib.Core.List.{List, [], _∷_}
 use native.Mathlib.Omega.{arith}
 use lib.IntN.{ℤ, pos}
 use lib.ListN.{length}
 use mir.Syntax.{w64}
-use mir.Val.{SFits}
+use mir.Val.{SFits, ofZ}
 use Rattle.integers.proofs.Linear.{ints, _∴_}
 use Rattle.integers.proofs.Machine.{plain, test-eq}
 use Rattle.calendar.specs.Questions.{given}
@@ -38,7 +39,8 @@ record All (l : List ℤ) (n high : ℤ) : Type 0 where
   pub high-is : high ≡ lastOr (pos 0) l
   pub count-fits : SFits w64 n
 
-all : (c : tie.After-counted-all) → All (asked (c .before)) (c .counted-all .result .count) (c .counted-all .result .high)
+all : (c : tie.After-counted-all)
+    → All (asked (c .before)) (c .counted-all .result .count) (c .counted-all .result .high)
 all c =
     let s = c .before in
     let p = s .fits .a-period in
@@ -57,12 +59,17 @@ all c =
 zero-fits : SFits w64 (pos 0)
 zero-fits = simp ints (omega arith)
 
+-- the test for none
+is-zero : (c : tie.After-counted-all) → let n = c .counted-all .result .count in (ofZ w64 n ≡ 0) ↔ (n ≡ pos 0)
+is-zero c = test-eq w64 (c .counted-all .result .count) (pos 0) (all c .count-fits) zero-fits
+
 -- ---- none
 
 picked-of-requires : tie.Need-picked-of-requires
 picked-of-requires c κs = tt
 
-none-last : (d : ℤ) (l : List ℤ) → pos (length l) ≡ pos 0 → lastOr d l ≡ d
+-- of no members the last is what stands for it
+none-last : (d : ℤ) (l : List ℤ) → pos (length l) ≡ pos 0 → d ≡ lastOr d l
 none-last d [] e = refl
 none-last d (x ∷ l) e = absurd (e ∴ simp ints (omega arith))
 
@@ -74,8 +81,9 @@ returns c =
     let z = zero-fits in
     let o : SFits w64 (pos 1) = simp ints (omega arith) in
     let a = all k in
-    let none = sym (a .count-is) ∙ test-eq w64 (k .counted-all .result .count) (pos 0) (a .count-fits) z .0 (c .before .if1 .taken) in
-    simp plain at (c .picked-of .ensures) ∙ ap₂ (pickedOf (s .args .i)) (sym (none-last (pos 1) (asked s) none)) (sym (none-last (pos 0) (asked s) none))
+    let none = sym (a .count-is) ∙ is-zero k .0 (c .before .if1 .taken) in
+    simp plain at (c .picked-of .ensures)
+    ∙ ap₂ (pickedOf (s .args .i)) (none-last (pos 1) (asked s) none) (none-last (pos 0) (asked s) none)
 
 -- ---- the last
 
@@ -95,8 +103,9 @@ returns-2 c =
     let i = s .fits .i in
     let a = all k in
     let h : SFits w64 (k .counted-all .result .high) = sfits-of (t .before .struct-told .given .1 .1 .0 .1) in
-    let some : ¬ (pos (length (asked s)) ≡ pos 0) = λ e. t .if1 .left (test-eq w64 (k .counted-all .result .count) (pos 0) (a .count-fits) zero-fits .1 (a .count-is ∙ e)) in
-    simp plain at (c .picked-of2 .ensures) ∙ ap₂ (pickedOf (s .args .i)) (a .high-is ∙ some-last (pos 0) (pos 1) (asked s) some) (a .high-is)
+    let some : ¬ (pos (length (asked s)) ≡ pos 0) = λ e. t .if1 .left (is-zero k .1 (a .count-is ∙ e)) in
+    let low = a .high-is ∙ some-last (pos 0) (pos 1) (asked s) some in
+    simp plain at (c .picked-of2 .ensures) ∙ ap₂ (pickedOf (s .args .i)) low (a .high-is)
 
 pub picked-last-spec : {M : Type 1} → statement M
 picked-last-spec = tie.close (tie.spec counted-all-requires picked-of-requires returns picked-of-requires-2 returns-2)
