@@ -13,7 +13,7 @@
  *     -16   the slots do not make up the whole slot
  *     -17   the list is too short for the parts
  *     -18   a rule that is neither 0 nor 1, a fixed allowance that is negative, infinite or no number, or a share that is not
- *           0 to 1 in steps of 1/256
+ *           1/256 to 1 in steps of 1/256
  *
  * Of several, the answer is the first of 13 (each row in the order of the arguments), 14, 18, 15, 16, 17. Any numbers may be passed.
  * What is asked of the caller is what C cannot check: a pointer points to as many numbers as its length says (to one, where it has
@@ -59,8 +59,8 @@ int64_t jogipahn_figures(const int32_t *cells, size_t len, int64_t period, int64
                          double *openness, double *mean_length, double *mean_spacing);
 
 /* Whether a delivery may be d instants late on the slot z: 1 for yes, 0 for no. By rule 0 it may be late by `amount` instants,
- * which is finite and not below zero; by rule 1 by a share of the slot's length, a multiple of 1/256 from 0 to 1. Any other rule is
- * refused with 18. Refusals: 13, 14, 18, 15. */
+ * which is finite and not below zero; by rule 1 by a share of the slot's length, a multiple of 1/256
+ * above 0 and up to 1. A share of 0 and any other rule are refused with 18; a fixed 0 is not. Refusals: 13, 14, 18, 15. */
 int64_t jogipahn_may_be_late(const int32_t *cells, size_t len, int64_t period, int64_t distance,
                              int64_t z, int64_t d, int64_t rule, double amount);
 

@@ -104,7 +104,7 @@ fn may_be_late(row: &OwnRow, z: i64, d: i64, rule: Allowance) -> Result<bool, u3
     test_row(row)?;
     refuse_if(!(-LIMIT <= z && z <= LIMIT), 14)?;
     refuse_if(!(0 <= d && d <= 1_048_576), 14)?;
-    let shares: Vec<f64> = (0..=256).map(|share| f64::from(share) / 256.0).collect();
+    let shares: Vec<f64> = (1..=256).map(|share| f64::from(share) / 256.0).collect();
     match rule {
         Allowance::Fixed(amount) => refuse_if(!(amount.is_finite() && amount >= 0.0), 18)?,
         Allowance::Share(amount) => refuse_if(!shares.contains(&amount), 18)?,

@@ -57,6 +57,13 @@ fn questions_are_answered_alike() {
     for way in DAMAGES {
         assert!(count_of(way) >= 50, "{way}: {}", count_of(way));
     }
+    for blank in [
+        "a blank share: refused 18",
+        "a fixed allowance of 0: yes",
+        "a fixed allowance of 0: no",
+    ] {
+        assert!(count_of(blank) >= 50, "{blank}: {}", count_of(blank));
+    }
     for number in 13..=18 {
         let refused = format!("refused {number}");
         assert!(
@@ -172,7 +179,11 @@ fn compare(question: &Question, first: &OwnRow, other: &OwnRow) -> String {
                 Ok(false) => "no".to_owned(),
                 Err(number) => refused(number),
             };
-            told("lateness", &answer)
+            match rule {
+                second::Allowance::Share(0.0) => told("a blank share", &answer),
+                second::Allowance::Fixed(0.0) => told("a fixed allowance of 0", &answer),
+                _ => told("lateness", &answer),
+            }
         }
     }
 }

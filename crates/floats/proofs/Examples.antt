@@ -6,7 +6,7 @@ use Prim.Native.Nat.{ℕ}
 use lib.IntN.{pos, negsuc}
 use lib.Ieee.{Float, nan, inf, fin, binary64, ofInt, div, fits}
 use Rattle.floats.specs.Near.{within, float}
-use Rattle.floats.specs.Allowance.{amount, share, isAllowed, mayBeLate}
+use Rattle.floats.specs.Allowance.{amount, share, positiveShare, isAllowed, mayBeLate}
 use Rattle.floats.specs.declared.Allowance.{Allowance}
 use Rattle.floats.specs.declared.Allowance.the-variants.{Fixed, Share}
 
@@ -22,8 +22,8 @@ judged v f s = record { number = v; fixed = f; share = s }
 unfoldable pub numbers : List Judged
 numbers =
     -- 0 and negative zero
-    judged (fin false 0 (pos 0)) true true
-    ∷ judged (fin true 0 (pos 0)) true true
+    judged (fin false 0 (pos 0)) true false
+    ∷ judged (fin true 0 (pos 0)) true false
     -- 1 / 256, 255 / 256 and 1
     ∷ judged (fin false 1 (negsuc 7)) true true
     ∷ judged (fin false 255 (negsuc 7)) true true
@@ -47,7 +47,7 @@ numbers =
     ∷ []
 
 pub allowances-by-example : map (λ c. judged (c .number) (isAllowed (Fixed (c .number))) (isAllowed (Share (c .number)))) numbers ≡ numbers
-unfolding numbers amount share
+unfolding numbers amount share positiveShare
 allowances-by-example = refl
 
 -- each is a binary64 number
@@ -73,15 +73,13 @@ deliveries =
     ∷ late 1 5 (Fixed (fin true 0 (pos 0))) false
     ∷ late 0 5 (Fixed (fin false 1 (negsuc 1073))) true
     ∷ late 1 5 (Fixed (fin false 1 (negsuc 1073))) false
-    -- a share: all of it, a half, 1 / 256, negative zero
+    -- a share: all of it, a half, 1 / 256
     ∷ late 5 5 (Share (fin false 1 (pos 0))) true
     ∷ late 6 5 (Share (fin false 1 (pos 0))) false
     ∷ late 2 5 (Share (fin false 1 (negsuc 0))) true
     ∷ late 3 5 (Share (fin false 1 (negsuc 0))) false
     ∷ late 1 256 (Share (fin false 1 (negsuc 7))) true
     ∷ late 1 255 (Share (fin false 1 (negsuc 7))) false
-    ∷ late 0 5 (Share (fin true 0 (pos 0))) true
-    ∷ late 1 5 (Share (fin true 0 (pos 0))) false
     ∷ []
 
 pub lateness-by-example : map (λ c. mayBeLate (c .d) (c .length) (c .allowance)) deliveries ≡ map (λ c. c .answer) deliveries

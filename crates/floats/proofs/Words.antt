@@ -1,6 +1,6 @@
 -- The words of the contracts, said of floats: what each test of the code comes to.
-use mathlib.Core.Path.{_≡_, refl, sym, _∙_}
-use mathlib.Core.Bool.{Bool, true, false, _&&_, true≢false, false≢true}
+use mathlib.Core.Path.{_≡_, refl, sym, _∙_, ap}
+use mathlib.Core.Bool.{Bool, true, false, not, _&&_, true≢false, false≢true}
 use Prim.Native.Nat.{ℕ, zero, suc, _*_, _/_, _%_, _^_, _≤_}
 use native.Mathlib.Nat.{lt-of-le-of-lt, le-of-mul-le-mul-right, mul-one, one-mul, mul-pos, mul-le-mul, div-mul-cancel, dvd-of-mod-eq-zero}
 use native.Mathlib.Omega.{arith}
@@ -8,12 +8,12 @@ use lib.IntN.{pos, negsuc}
 use lib.Dec.{T, leb, eqb, leb→le, lit≤, eqb→eq, eqb·suc-zero}
 use lib.Pow.{pow-pos}
 use borrow.Author.Tests.{le-leb, eq-eqb, ne-eqb}
-use lib.Ieee.{Float, nan, inf, fin, binary64, up, down, mul, rem, lt, le, eq, fits}
+use lib.Ieee.{Float, nan, inf, fin, binary64, up, down, mul, rem, lt, le, eq, ne, fits}
 use lib.Ieee.Fits.{up-pos, down-pos, and-l, and-r}
 use lib.Ieee.Exact.{HasValue}
 use lib.Ieee.Positive.{num, den, den-pos}
 use Rattle.floats.specs.Near.{float}
-use Rattle.floats.specs.Allowance.{amount, share}
+use Rattle.floats.specs.Allowance.{amount, share, positiveShare}
 use Rattle.floats.proofs.Whole.{float-value}
 use Rattle.floats.proofs.Compare.{signed-le, le-fractions, eq-zero, mul-eq-zero}
 use Rattle.floats.proofs.Product.{mul-exact}
@@ -87,6 +87,25 @@ share-tests v t = go (amount v) (λ (a : T (amount v)). a)
     go : (b : Bool) → (T b → T (amount v)) → (b && leb (num v) (den v) && eqb (num v * 256 % den v) 0) ≡ (b && le v one && eq (rem binary64 v unit) positive-zero)
     go true h = rw (le-one v (h tt), multiple-of-unit v (h tt) t)
     go false h = refl
+
+-- a share that is not 0
+nonzero : (v : Float) → T (share v) → not (eqb (num v) 0) ≡ ne v positive-zero
+unfolding share ne
+nonzero v t =
+    let a = and-l (amount v) (leb (num v) (den v)) (and-l (amount v && leb (num v) (den v)) (eqb (num v * 256 % den v) 0) t) in
+    ap not (sym (eq-zero v (sign v) (num v) (den v) (den-pos v) (amount-value v a)))
+
+pub positive-share-tests : (v : Float) → positiveShare v ≡ (share v && ne v positive-zero)
+unfolding positiveShare
+positive-share-tests v = go (share v) (λ (a : T (share v)). a)
+  where
+    go : (b : Bool) → (T b → T (share v)) → (b && not (eqb (num v) 0)) ≡ (b && ne v positive-zero)
+    go true h = nonzero v (h tt)
+    go false h = refl
+
+pub positive-share : (v : Float) → T (positiveShare v) → T (share v)
+unfolding positiveShare
+positive-share v t = and-l (share v) (not (eqb (num v) 0)) t
 
 -- ---- lateness
 pub late-fixed : (d : ℕ) (v : Float) → d ≤ 2 ^ 53 → T (amount v) → le (float d) v ≡ leb (d * den v) (num v)

@@ -18,10 +18,15 @@ unfoldable pub share : Float → Bool
 unfolding amount
 share v = amount v && leb (num v) (den v) && eqb (num v * 256 % den v) 0
 
+-- document 02, Req 02: "From now on a share of 0, negative zero included, is refused with 18. A fixed allowance of 0 stays allowed."
+unfoldable pub positiveShare : Float → Bool
+unfolding share
+positiveShare v = share v && not (eqb (num v) 0)
+
 -- what refusal 18, "the allowance isn't allowed", lets pass
 abbrev pub isAllowed : Allowance → Bool
 isAllowed (Fixed v) = amount v
-isAllowed (Share v) = share v
+isAllowed (Share v) = positiveShare v
 
 -- "Yes exactly if d is not above it": d ≤ v for a fixed number of instants, d ≤ v · length for a share of the length
 abbrev pub mayBeLate : ℕ → ℕ → Allowance → Bool

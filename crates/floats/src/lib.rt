@@ -5,7 +5,7 @@ ghost use mathlib.Core.Bool.{true};
 ghost use Prim.Native.Nat.{_≤_};
 ghost use Rattle.floats.specs.Near.{limit};
 ghost use Rattle.floats.specs.Figures.{Quotient, Quotients};
-ghost use Rattle.floats.specs.Allowance.{amount, share, isAllowed, mayBeLate};
+ghost use Rattle.floats.specs.Allowance.{amount, share, positiveShare, isAllowed, mayBeLate};
 
 // The figures of a row: the part of its instants that is labelled (the open part), and the mean length and the mean spacing of its
 // granules (slots).
@@ -55,13 +55,20 @@ fn is_share(v: f64) -> bool
     is_amount(v) && v <= 1.0 && v % 0.00390625 == 0.0
 }
 
+// A share that is not 0.
+fn is_positive_share(v: f64) -> bool
+    ensures { λ r. ⌜ r ≡ positiveShare v ⌝ }
+{
+    is_share(v) && v != 0.0
+}
+
 // Whether an allowance is one that `may_be_late` takes.
 pub fn allowed(a: Allowance) -> bool
     ensures { λ r. ⌜ r ≡ isAllowed a ⌝ }
 {
     match a {
         Allowance::Fixed(v) => is_amount(v),
-        Allowance::Share(v) => is_share(v),
+        Allowance::Share(v) => is_positive_share(v),
     }
 }
 

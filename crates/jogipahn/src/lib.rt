@@ -65,7 +65,7 @@ pub use calendar::Calendar;
 //     16 PartsIncomplete        the slots do not make up the whole slot
 //     17 ListTooShort           the list cannot hold the parts
 //     18 AllowanceNotAllowed    a fixed allowance that is negative, infinite or no number, or a share that is not
-//                               0 to 1 in steps of 1/256
+//                               1/256 to 1 in steps of 1/256
 pub use calendar::Refusal;
 
 // convert(table, headings, pool): the rows of all entries into the pool, one behind the other, and where each stands

@@ -133,7 +133,7 @@ pub fn may_be_late(row: Row, z: i64, d: i64, rule: Allowance) -> Result<bool, u3
     }
     let allowed = match rule {
         Allowance::Fixed(instants) => instants.is_finite() && instants >= 0.0,
-        Allowance::Share(share) => (0.0..=1.0).contains(&share) && (share * 256.0).fract() == 0.0,
+        Allowance::Share(share) => share > 0.0 && share <= 1.0 && (share * 256.0).fract() == 0.0,
     };
     if !allowed {
         return Err(18);
@@ -484,8 +484,12 @@ mod tests {
         assert_eq!(may_be_late(W, 0, 8, Share(1.0)), Ok(false));
         assert_eq!(may_be_late(W, 3, 3, Share(0.5)), Ok(true));
         assert_eq!(may_be_late(W, 3, 4, Share(0.5)), Ok(false));
-        assert_eq!(may_be_late(B, 1, 0, Share(-0.0)), Ok(true));
-        assert_eq!(may_be_late(B, 1, 1, Share(0.0)), Ok(false));
+        // A share of 0 is refused, a fixed allowance of 0 is not.
+        assert_eq!(may_be_late(B, 1, 0, Share(-0.0)), Err(18));
+        assert_eq!(may_be_late(B, 1, 0, Share(0.0)), Err(18));
+        assert_eq!(may_be_late(B, 6, 0, Share(0.0)), Err(18));
+        assert_eq!(may_be_late(B, 1, 0, Fixed(0.0)), Ok(true));
+        assert_eq!(may_be_late(B, 1, 1, Fixed(0.0)), Ok(false));
         assert_eq!(may_be_late(B, 1, 2, Fixed(2.0)), Ok(true));
         assert_eq!(may_be_late(B, 1, 2, Fixed(1.999)), Ok(false));
         assert_eq!(may_be_late(B, 1, 0, Fixed(-0.0)), Ok(true));

@@ -12,8 +12,8 @@ is-amount-requires c κs = search needs
 enum-known-a-2 : tie.Need-enum-known-a-2
 enum-known-a-2 c = search needs
 
-is-share-requires : tie.Need-is-share-requires
-is-share-requires c κs = search needs
+is-positive-share-requires : tie.Need-is-positive-share-requires
+is-positive-share-requires c κs = search needs
 
 returns : tie.Need-returns
 returns c = cc
@@ -24,4 +24,4 @@ returns-2 c = cc
 pub allowed-spec : {M : Type 1} → statement M
 allowed-spec =
     tie.close
-    (tie.spec enum-known-a is-amount-requires enum-known-a-2 is-share-requires returns returns-2)
+    (tie.spec enum-known-a is-amount-requires enum-known-a-2 is-positive-share-requires returns returns-2)

@@ -6,7 +6,7 @@ use borrow.Author.Needs.{needs}
 use lib.Dec.{T}
 use Rattle.floats.proofs.Whole.{cast-fits}
 use Rattle.floats.specs.Allowance.{isAllowed, mayBeLate}
-use Rattle.floats.proofs.Words.{late-fixed, late-share}
+use Rattle.floats.proofs.Words.{late-fixed, positive-share, late-share}
 use Rattle.floats.proofs.may_be_late.Statement.{statement}
 use Rattle.floats.proofs.may_be_late.Tie as tie
 
@@ -33,7 +33,7 @@ returns c =
 returns-2 : tie.Need-returns-2
 returns-2 c =
     let e = c .before .before .a2 .given .1 in
-    late-share _ (passed (sym (ap isAllowed e) ∙ c .before .before .before .before .before .pre .2)) _ _ (omega arith) (omega arith) ∙ sym (ap (mayBeLate _ _) e)
+    late-share _ (positive-share _ (passed (sym (ap isAllowed e) ∙ c .before .before .before .before .before .pre .2))) _ _ (omega arith) (omega arith) ∙ sym (ap (mayBeLate _ _) e)
 
 pub may-be-late-spec : {M : Type 1} → statement M
 may-be-late-spec =
