@@ -237,6 +237,17 @@ module _ (cells : List ℤ) (i : ℕ) (d : ℤ) (here : i < length cells) where
           ∙ ap (λ (b : Bool). cond b (risen j (drop (i + 1) cells)) (cond (leZ j z) (risen z (drop (i + 1) cells)) none)) e
           ∙ ap (λ (b : Bool). cond b (risen z (drop (i + 1) cells)) none) f
 
+  -- from its own label on, a cell changes nothing
+  pub risen-own : risen z (drop i cells) ≡ risen z (drop (i + 1) cells)
+  risen-own = by (isEmpty z) refl
+    where
+      by : (b : Bool) → isEmpty z ≡ b → risen z (drop i cells) ≡ risen z (drop (i + 1) cells)
+      by true e = risen-past z e
+      by false e =
+          risen-here z
+          ∙ ap (λ (b : Bool). cond b (risen z (drop (i + 1) cells)) (cond (leZ z z) (risen z (drop (i + 1) cells)) none)) e
+          ∙ ap (λ (b : Bool). cond b (risen z (drop (i + 1) cells)) none) (leZ-iff z z .1 (simp ints (omega arith)))
+
 pub risen-end : (cells : List ℤ) (i : ℕ) (j : ℤ) → length cells ≤ i → risen j (drop i cells) ≡ some j
 unfolding risen
 risen-end cells i j h = rw (drop-of-length-le cells h)
