@@ -1,9 +1,11 @@
 -- The labels of a row, as the code counts them.
 use mathlib.Core.Bool.{cond}
 use mathlib.Core.List.{List, [], _∷_}
-use Prim.Native.Nat.{ℕ, suc}
+use Prim.Native.Nat.{ℕ, suc, _-_}
 use lib.IntN.{ℤ, pos}
 use lib.Signed.{ltZ}
+use lib.ListN.{getD, drop}
+use Rattle.calendar.specs.Meaning.{empty}
 use Rattle.calendar.specs.Lists.{equal}
 use Rattle.counts.specs.declared.Labels.{Labels}
 
@@ -21,6 +23,10 @@ greatest j (z ∷ l) = cond (ltZ j z) (greatest z l) (greatest j l)
 unfoldable pub differing : ℤ → List ℤ → ℕ
 differing j [] = 0
 differing j (z ∷ l) = cond (equal z j) (differing z l) (suc (differing z l))
+
+-- the same for the cells from i on, where j is the cell before
+abbrev pub differingBehind : List ℤ → ℕ → ℕ
+differingBehind cells i = differing (getD cells (i - 1) empty) (drop i cells)
 
 -- the labels from j on: j and each that is greater than those before
 unfoldable pub counted : ℤ → List ℤ → Labels

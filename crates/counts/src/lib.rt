@@ -2,7 +2,7 @@
 
 ghost use mathlib.Core.Path.{_≡_};
 ghost use lib.IntN.{pos};
-ghost use Prim.Native.Nat.{_<_};
+ghost use Prim.Native.Nat.{_+_, _-_, _<_, _≤_};
 ghost use lib.ListN.{length, getD, drop};
 ghost use Rattle.calendar.specs.Meaning.{empty};
 ghost use Rattle.calendar.specs.Granules as G;
@@ -10,7 +10,8 @@ ghost use Rattle.calendar.specs.Sound as S;
 ghost use Rattle.calendar.specs.Questions.{given};
 ghost use Rattle.cursors.specs.Found.{Sound};
 ghost use Rattle.cursors.specs.Search.{leading};
-ghost use Rattle.counts.specs.Labels.{differing, counted};
+ghost use Rattle.row_check.specs.Blocks.{Block};
+ghost use Rattle.counts.specs.Labels.{differing, differingBehind, counted};
 use calendar::Calendar;
 use row_check::scan;
 
@@ -43,6 +44,23 @@ fn labels_from(cells: &[i32], start: usize) -> Labels
     }
 }
 
+// How many cells from `start` up to `end` are another than the one before.
+fn changes_in(cells: &[i32], start: usize, end: usize) -> u32
+    requires { do ⌜ Block start end (← ⟦cells.len()⟧) × (1 ≤ start) ⌝ }
+    ensures few { λ r. ⌜ r ≤ end - start ⌝ }
+    ensures counted { λ r. ⌜ differingBehind (now (cells .entry)) start ≡ r + differingBehind (now (cells .entry)) end ⌝ }
+{
+    let mut count: u32 = 0;
+    let mut i = start;
+    while i < end {
+        if cells[i] != cells[i - 1] {
+            count += 1;
+        }
+        i += 1;
+    }
+    count
+}
+
 // How many cells are another than the one before.
 fn changes(cells: &[i32]) -> usize
     requires { do ⌜ 0 < (← ⟦cells.len()⟧) ⌝ }
@@ -51,10 +69,9 @@ fn changes(cells: &[i32]) -> usize
     let mut count: usize = 0;
     let mut i = 1;
     while i < cells.len() {
-        if cells[i] != cells[i - 1] {
-            count += 1;
-        }
-        i += 1;
+        let end = scan::block_end(i, cells.len());
+        count += changes_in(cells, i, end) as usize;
+        i = end;
     }
     count
 }
@@ -92,6 +109,23 @@ pub fn granules(cells: &[i32], period: i64, distance: i64) -> i64
     }
 }
 
+// How many cells from `start` up to `end` have a label.
+fn labelled_in(cells: &[i32], start: usize, end: usize) -> u32
+    requires { do ⌜ Block start end (← ⟦cells.len()⟧) ⌝ }
+    ensures few { λ r. ⌜ r ≤ end - start ⌝ }
+    ensures counted { λ r. ⌜ length (S.labelsOf (drop start (now (cells .entry)))) ≡ r + length (S.labelsOf (drop end (now (cells .entry)))) ⌝ }
+{
+    let mut count: u32 = 0;
+    let mut i = start;
+    while i < end {
+        if cells[i] != Calendar::EMPTY {
+            count += 1;
+        }
+        i += 1;
+    }
+    count
+}
+
 // How many instants of a turn have a label.
 pub fn labelled_instants(cells: &[i32]) -> i64
     ensures { λ r. ⌜ r ≡ pos (length (S.labelsOf (now (cells .entry)))) ⌝ }
@@ -99,10 +133,9 @@ pub fn labelled_instants(cells: &[i32]) -> i64
     let mut count: usize = 0;
     let mut i = 0;
     while i < cells.len() {
-        if cells[i] != Calendar::EMPTY {
-            count += 1;
-        }
-        i += 1;
+        let end = scan::block_end(i, cells.len());
+        count += labelled_in(cells, i, end) as usize;
+        i = end;
     }
     count as i64
 }

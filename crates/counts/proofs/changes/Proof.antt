@@ -1,28 +1,21 @@
 -- `counts::changes` meets its contract: the loop keeps the count, by the cell before and the cells that are left.
 -- Assumes nothing.
-use mathlib.Core.Path.{_≡_, sym, _∙_, ap}
-use mathlib.Core.Logic.{⊎-elim}
+use mathlib.Core.Path.{_≡_}
 use mathlib.Core.List.{List}
-use Prim.Native.Nat.{ℕ, _+_, _-_, _≤_, _<_}
+use Prim.Native.Nat.{ℕ, _+_, _-_, _≤_}
 use native.Mathlib.Omega.{arith}
-use borrow.Author.Needs.{sfits-of}
-use lib.IntN.{ℤ, pos}
+use lib.IntN.{ℤ}
 use lib.ListN.{length, getD, drop}
-use mir.Syntax.{w32}
-use mir.Val.{ofZ}
-use Rattle.integers.proofs.Machine.{test-eq}
 use Rattle.calendar.specs.Meaning.{empty}
-use Rattle.cursors.proofs.Cells.{getD-any}
-use Rattle.counts.specs.Labels.{differing}
-use Rattle.counts.proofs.Whole.{differing-same, differing-more, differing-end}
+use Rattle.counts.specs.Labels.{differing, differingBehind}
+use Rattle.counts.proofs.Whole.{differing-end}
 use Rattle.counts.proofs.changes.Statement.{statement}
 use Rattle.counts.proofs.changes.Tie as tie
 
 record Inv (cells : List ℤ) (count i : ℕ) : Type 0 where
-  low : 1 ≤ i
+  few : count + 1 ≤ i
   within : i ≤ length cells
-  few : count ≤ i
-  left : differing (getD cells 0 empty) (drop 1 cells) ≡ count + differing (getD cells (i - 1) empty) (drop i cells)
+  left : differing (getD cells 0 empty) (drop 1 cells) ≡ count + differingBehind cells i
 
 abbrev Inv-loop : tie.InvT-loop
 Inv-loop cells count₀ i₀ count i = Inv cells count i
@@ -31,52 +24,25 @@ abbrev μ-loop : tie.MeasureT-loop
 μ-loop cells count₀ i₀ count i = length cells - i
 
 loop-holds : tie.Need-loop-holds Inv-loop μ-loop
-loop-holds c = record { low = omega arith; within = omega (arith, c .pre); few = omega arith; left = omega arith }
+loop-holds c = record { few = omega arith; within = omega (arith, c .pre); left = omega arith }
 
-mul-if1 : tie.Need-mul-if1 Inv-loop μ-loop
-mul-if1 c = omega arith
+block-end-requires : tie.Need-block-end-requires Inv-loop μ-loop
+block-end-requires c κs = omega arith
 
-shared-slice-copy-out-if1 : tie.Need-shared-slice-copy-out-if1 Inv-loop μ-loop
-shared-slice-copy-out-if1 c = omega arith
+changes-in-requires : tie.Need-changes-in-requires Inv-loop μ-loop
+changes-in-requires c κs = omega arith
 
-sub-if1 : tie.Need-sub-if1 Inv-loop μ-loop
-sub-if1 c = omega arith
-
-mul-if1-2 : tie.Need-mul-if1-2 Inv-loop μ-loop
-mul-if1-2 c = omega arith
-
-shared-slice-copy-out-if1-2 : tie.Need-shared-slice-copy-out-if1-2 Inv-loop μ-loop
-shared-slice-copy-out-if1-2 c = omega arith
+cast-count : tie.Need-cast-count Inv-loop μ-loop
+cast-count c = omega arith
 
 add-count : tie.Need-add-count Inv-loop μ-loop
 add-count c = omega arith
-
-add-i : tie.Need-add-i Inv-loop μ-loop
-add-i c = omega arith
 
 loop-less : tie.Need-loop-less Inv-loop μ-loop
 loop-less c = omega arith
 
 loop-again : tie.Need-loop-again Inv-loop μ-loop
-loop-again c =
-    let a = c .before .before .before .before in
-    let k = a .loop in
-    let l = a .before .args .cells .now in
-    let i = k .i in
-    let here : i < length l = omega arith in
-    let x : getD l i (pos 0) ≡ getD l i empty = getD-any l i (pos 0) empty here in
-    let y : getD l (i - 1) (pos 0) ≡ getD l (i - 1) empty = getD-any l (i - 1) (pos 0) empty (omega arith) in
-    let e : i + 1 - 1 ≡ i = omega arith in
-    let g = ap (λ (m : ℕ). differing (getD l m empty) (drop (i + 1) l)) e in
-    ⊎-elim
-    (λ w.
-    let m = differing-more l i empty here (getD l (i - 1) empty) (λ h. w .0 .taken (ap (ofZ w32) (x ∙ h ∙ sym y))) in
-    record { low = omega arith; within = omega arith; few = omega arith; left = omega (arith, k .inv .left, m, g) })
-    (λ w.
-    let q = test-eq w32 _ _ (sfits-of (c .before .before .if12 .given)) (sfits-of (c .before .if13 .given)) .0 (w .0 .left) in
-    let m = differing-same l i empty here (getD l (i - 1) empty) (sym x ∙ q ∙ y) in
-    record { low = omega arith; within = omega arith; few = omega arith; left = omega (arith, k .inv .left, m, g) })
-    (c .if1 .came)
+loop-again c = record { few = omega arith; within = omega arith; left = omega arith }
 
 returns : tie.Need-returns Inv-loop μ-loop
 returns c =
@@ -91,13 +57,10 @@ changes-spec =
     Inv-loop
     μ-loop
     loop-holds
-    mul-if1
-    shared-slice-copy-out-if1
-    sub-if1
-    mul-if1-2
-    shared-slice-copy-out-if1-2
+    block-end-requires
+    changes-in-requires
+    cast-count
     add-count
-    add-i
     loop-less
     loop-again
     returns)

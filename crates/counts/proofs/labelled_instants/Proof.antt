@@ -1,25 +1,22 @@
 -- `counts::labelled_instants` meets its contract: the loop counts the labels of the cells that it has passed.
 -- Assumes nothing.
 use mathlib.Core.Path.{_≡_, _∙_, ap}
-use mathlib.Core.Logic.{⊎-elim}
 use mathlib.Core.List.{List}
 use Prim.Native.Nat.{ℕ, _+_, _-_, _≤_, _<_, _^_}
 use native.Mathlib.Omega.{arith}
-use borrow.Author.Needs.{sfits-of}
 use lib.IntN.{ℤ, pos}
-use lib.ListN.{length, getD, drop}
+use lib.ListN.{length, drop}
 use mir.Facts.{toZ-pos}
 use mir.Syntax.{w64}
 use Rattle.integers.proofs.Linear.{ints, _∴_}
 use Rattle.calendar.specs.Sound.{labelsOf}
-use Rattle.cursors.proofs.Cells.{bits-empty, bits-full}
-use Rattle.counts.proofs.Counts.{labelled-more, labelled-same, labelled-end}
+use Rattle.counts.proofs.Counts.{labelled-end}
 use Rattle.counts.proofs.labelled_instants.Statement.{statement}
 use Rattle.counts.proofs.labelled_instants.Tie as tie
 
 record Inv (cells : List ℤ) (count i : ℕ) : Type 0 where
-  within : i ≤ length cells
   few : count ≤ i
+  within : i ≤ length cells
   left : length (labelsOf cells) ≡ count + length (labelsOf (drop i cells))
 
 abbrev Inv-loop : tie.InvT-loop
@@ -29,37 +26,25 @@ abbrev μ-loop : tie.MeasureT-loop
 μ-loop cells count₀ i₀ count i = length cells - i
 
 loop-holds : tie.Need-loop-holds Inv-loop μ-loop
-loop-holds c = record { within = omega arith; few = omega arith; left = omega arith }
+loop-holds c = record { few = omega arith; within = omega arith; left = omega arith }
 
-mul-if1 : tie.Need-mul-if1 Inv-loop μ-loop
-mul-if1 c = omega arith
+block-end-requires : tie.Need-block-end-requires Inv-loop μ-loop
+block-end-requires c κs = omega arith
 
-shared-slice-copy-out-if1 : tie.Need-shared-slice-copy-out-if1 Inv-loop μ-loop
-shared-slice-copy-out-if1 c = omega arith
+labelled-in-requires : tie.Need-labelled-in-requires Inv-loop μ-loop
+labelled-in-requires c κs = omega arith
+
+cast-count : tie.Need-cast-count Inv-loop μ-loop
+cast-count c = omega arith
 
 add-count : tie.Need-add-count Inv-loop μ-loop
 add-count c = omega arith
-
-add-i : tie.Need-add-i Inv-loop μ-loop
-add-i c = omega arith
 
 loop-less : tie.Need-loop-less Inv-loop μ-loop
 loop-less c = omega arith
 
 loop-again : tie.Need-loop-again Inv-loop μ-loop
-loop-again c =
-    let k = c .before .before .before .loop in
-    let l = c .before .before .before .before .args .cells .now in
-    let z = getD l (k .i) (pos 0) in
-    let here : k .i < length l = omega arith in
-    ⊎-elim
-    (λ w.
-    let m = labelled-more l (k .i) (pos 0) here (bits-full z (w .0 .taken)) in
-    record { within = omega arith; few = omega arith; left = omega (arith, m) })
-    (λ w.
-    let m = labelled-same l (k .i) (pos 0) here (bits-empty z (sfits-of (c .before .if12 .given)) (w .0 .left)) in
-    record { within = omega arith; few = omega arith; left = omega (arith, m) })
-    (c .if1 .came)
+loop-again c = record { few = omega arith; within = omega arith; left = omega arith }
 
 few : (c : tie.After-loop Inv-loop μ-loop) → c .before .loop .count < 2 ^ 63
 few c = omega arith
@@ -79,10 +64,10 @@ labelled-instants-spec =
     Inv-loop
     μ-loop
     loop-holds
-    mul-if1
-    shared-slice-copy-out-if1
+    block-end-requires
+    labelled-in-requires
+    cast-count
     add-count
-    add-i
     loop-less
     loop-again
     cast-result
