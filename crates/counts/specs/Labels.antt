@@ -1,7 +1,7 @@
 -- The labels of a row, as the code counts them.
 use mathlib.Core.Bool.{cond}
 use mathlib.Core.List.{List, [], _∷_}
-use Prim.Native.Nat.{ℕ, suc, _-_}
+use Prim.Native.Nat.{ℕ, suc, _+_, _-_}
 use lib.IntN.{ℤ, pos}
 use lib.Signed.{ltZ}
 use lib.ListN.{getD, drop}
@@ -32,3 +32,8 @@ differingBehind cells i = differing (getD cells (i - 1) empty) (drop i cells)
 unfoldable pub counted : ℤ → List ℤ → Labels
 unfolding rises greatest
 counted j l = record { count = pos (suc (rises j l)); last = greatest j l }
+
+-- the same where n labels were counted before, the greatest of them j
+unfoldable pub countedOn : ℕ → ℤ → List ℤ → Labels
+unfolding rises greatest
+countedOn n j l = record { count = pos (n + rises j l); last = greatest j l }

@@ -1,164 +1,160 @@
--- `counts::labels_from` meets its contract: the loop keeps the count, by the last label so far and the cells that are left.
+-- `counts::labels_from` meets its contract: cell by cell, or in four parts that fit together.
 -- Assumes nothing.
-use mathlib.Core.Path.{_≡_, sym, _∙_, ap, subst}
-use mathlib.Core.Logic.{⊎-elim}
-use mathlib.Core.Bool.{true, false}
-use mathlib.Core.List.{List}
-use Prim.Native.Nat.{ℕ, suc, _+_, _-_, _≤_, _<_, _^_}
-use native.Mathlib.Omega.{arith}
+use mathlib.Core.Path.{_∙_, ap}
+use Prim.Native.Nat.{_+_, _-_, _/_}
+use borrow.Author.Needs.{needs}
 use borrow.Author.Needs.{sfits-of}
 use lib.IntN.{ℤ, pos}
-use lib.Signed.{ltZ}
 use lib.ListN.{length, getD, drop}
-use mir.Facts.{toZ-ofZ, toZ-pos}
-use mir.Syntax.{w32, w64}
-use mir.Val.{SFits, ofZ, toZ}
-use Rattle.integers.proofs.Linear.{ints, _∴_}
-use Rattle.integers.proofs.Machine.{widened}
+use mir.Facts.{toZ-ofZ}
 use Rattle.calendar.specs.Meaning.{empty}
-use Rattle.counts.specs.declared.Labels.{Labels}
-use Rattle.counts.specs.Labels.{rises, greatest, counted}
 use Rattle.cursors.proofs.Cells.{getD-any}
-use Rattle.counts.proofs.Counts.{count-more, count-same, count-end}
+use Rattle.counts.specs.Labels.{countedOn}
+use Rattle.counts.proofs.Steps.{abreast-joined, counted-from}
 use Rattle.counts.proofs.labels_from.Statement.{statement}
 use Rattle.counts.proofs.labels_from.Tie as tie
 
-record Inv (cells : List ℤ) (start last count i : ℕ) : Type 0 where
-  within : i ≤ length cells
-  few : count ≤ suc i
-  fits : SFits w32 (toZ w32 last)
-  left : suc (rises (getD cells start empty) (drop start cells)) ≡ count + rises (toZ w32 last) (drop i cells)
-  end : greatest (getD cells start empty) (drop start cells) ≡ greatest (toZ w32 last) (drop i cells)
+sub-q : tie.Need-sub-q
+sub-q c = search needs
 
-abbrev Inv-loop : tie.InvT-loop
-Inv-loop cells start last₀ count₀ i₀ last count i = Inv cells start last count i
+mul-labels-on : tie.Need-mul-labels-on
+mul-labels-on c = search needs
 
-abbrev μ-loop : tie.MeasureT-loop
-μ-loop cells start last₀ count₀ i₀ last count i = length cells - i
+shared-slice-copy-out-labels-on : tie.Need-shared-slice-copy-out-labels-on
+shared-slice-copy-out-labels-on c = search needs
 
-mul-last : tie.Need-mul-last Inv-loop μ-loop
-mul-last c = omega arith
+labels-on-requires : tie.Need-labels-on-requires
+labels-on-requires c κs = search needs
 
-shared-slice-copy-out-last : tie.Need-shared-slice-copy-out-last Inv-loop μ-loop
-shared-slice-copy-out-last c = omega arith
-
-loop-holds : tie.Need-loop-holds Inv-loop μ-loop
-loop-holds c =
-    let s = c .before in
-    let l = s .args .cells .now in
-    let k = s .args .start in
-    let f : SFits w32 (getD l k (pos 0)) = sfits-of (c .last .given) in
-    let e : getD l k empty ≡ toZ w32 (ofZ w32 (getD l k (pos 0))) = getD-any l k empty (pos 0) (s .pre) ∙ sym (toZ-ofZ f) in
-    record {
-      within = omega arith;
-      few = omega arith;
-      fits = subst (SFits w32) (sym (toZ-ofZ f)) f;
-      left = omega (arith, ap (λ (y : ℤ). rises y (drop k l)) e);
-      end = ap (λ (y : ℤ). greatest y (drop k l)) e;
-    }
-
-mul-z : tie.Need-mul-z Inv-loop μ-loop
-mul-z c = omega arith
-
-shared-slice-copy-out-z : tie.Need-shared-slice-copy-out-z Inv-loop μ-loop
-shared-slice-copy-out-z c = omega arith
-
-add-count : tie.Need-add-count Inv-loop μ-loop
-add-count c = omega arith
-
-add-i : tie.Need-add-i Inv-loop μ-loop
-add-i c = omega arith
-
-loop-less : tie.Need-loop-less Inv-loop μ-loop
-loop-less c = omega arith
-
--- the cell that a turn reads
-abbrev row : tie.After-z Inv-loop μ-loop → List ℤ
-row c = c .before .before .before .before .args .cells .now
-
-abbrev cell : tie.After-z Inv-loop μ-loop → ℤ
-cell c = getD (row c) (c .before .before .loop .i) (pos 0)
-
-cell-fits : (c : tie.After-z Inv-loop μ-loop) → SFits w32 (cell c)
-cell-fits c = sfits-of (c .z .given)
-
-here : (c : tie.After-z Inv-loop μ-loop) → c .before .before .loop .i < length (row c)
-here c = omega arith
-
--- a turn at a new label
-more : (c : tie.After-z Inv-loop μ-loop) (last count : ℕ) → ltZ (toZ w32 (c .before .before .loop .last)) (toZ w32 (ofZ w32 (cell c))) ≡ true
-    → last ≡ ofZ w32 (cell c) → count ≡ c .before .before .loop .count + 1 → Inv (row c) (c .before .before .before .before .args .start) last count (c .before .before .loop .i + 1)
-more c last count t e n =
-    let k = c .before .before .loop in
-    let f = cell-fits c in
-    let z : toZ w32 last ≡ cell c = ap (toZ w32) e ∙ toZ-ofZ f in
-    let m = count-more (row c) (k .i) (pos 0) (here c) (toZ w32 (k .last)) (rw (toZ-ofZ f) at t) in
-    record {
-      within = omega arith;
-      few = omega arith;
-      fits = subst (SFits w32) (sym z) f;
-      left = omega (arith, m .0, k .inv .left, ap (λ (y : ℤ). rises y (drop (k .i + 1) (row c))) z);
-      end = k .inv .end ∙ m .1 ∙ ap (λ (y : ℤ). greatest y (drop (k .i + 1) (row c))) (sym z);
-    }
-
--- a turn at the same label, or at none
-same : (c : tie.After-z Inv-loop μ-loop) (last count : ℕ) → ltZ (toZ w32 (c .before .before .loop .last)) (toZ w32 (ofZ w32 (cell c))) ≡ false
-    → last ≡ c .before .before .loop .last → count ≡ c .before .before .loop .count → Inv (row c) (c .before .before .before .before .args .start) last count (c .before .before .loop .i + 1)
-same c last count t e n =
-    let k = c .before .before .loop in
-    let m = count-same (row c) (k .i) (pos 0) (here c) (toZ w32 (k .last)) (rw (toZ-ofZ (cell-fits c)) at t) in
-    record {
-      within = omega arith;
-      few = omega arith;
-      fits = subst (λ (b : ℕ). SFits w32 (toZ w32 b)) (sym e) (k .inv .fits);
-      left = omega (arith, m .0, k .inv .left, ap (λ (b : ℕ). rises (toZ w32 b) (drop (k .i + 1) (row c))) e);
-      end = k .inv .end ∙ m .1 ∙ ap (λ (b : ℕ). greatest (toZ w32 b) (drop (k .i + 1) (row c))) (sym e);
-    }
-
-loop-again : tie.Need-loop-again Inv-loop μ-loop
-loop-again c =
-    ⊎-elim
-    (λ w. more (c .before) (c .if1 .last) (c .if1 .count) (w .0 .taken) (w .1) (w .2))
-    (λ w. same (c .before) (c .if1 .last) (c .if1 .count) (w .0 .left) (w .1) (w .2))
-    (c .if1 .came)
-
-few-labels : (c : tie.After-loop Inv-loop μ-loop) → c .before .loop .count < 2 ^ 63
-few-labels c = omega arith
-
-cast-t14 : tie.Need-cast-t14 Inv-loop μ-loop
-cast-t14 c = few-labels c ∴ simp ints (omega arith)
-
-cast-t15 : tie.Need-cast-t15 Inv-loop μ-loop
-cast-t15 c = widened (c .before .loop .inv .fits)
-
-labels-eq : {m n y z : ℤ} → m ≡ n → y ≡ z → _≡_ {A = Labels} (record { count = m; last = y }) (record { count = n; last = z })
-labels-eq p q = λ i. record { count = p i; last = q i }
-
-returns : tie.Need-returns Inv-loop μ-loop
-unfolding counted
+returns : tie.Need-returns
 returns c =
-    let k = c .before .loop in
     let s = c .before .before .before in
-    let e = count-end (s .args .cells .now) (k .i) (toZ w32 (k .last)) (omega arith) in
-    labels-eq
-    (toZ-pos w64 (few-labels c) ∙ ap pos (omega (arith, k .inv .left, e .0)))
-    (toZ-ofZ (widened (k .inv .fits)) ∙ sym (k .inv .end ∙ e .1))
+    let l = s .args .cells .now in
+    c .labels-on .ensures ∙ counted-from _ _ _ (toZ-ofZ (sfits-of (c .before .labels-on-arg .given)) ∙ getD-any l _ (pos 0) empty (s .pre))
+
+add-label-before : tie.Need-add-label-before
+add-label-before c = search needs
+
+mul-label-before : tie.Need-mul-label-before
+mul-label-before c = search needs
+
+shared-slice-copy-out-label-before : tie.Need-shared-slice-copy-out-label-before
+shared-slice-copy-out-label-before c = search needs
+
+label-before-requires : tie.Need-label-before-requires
+label-before-requires c κs = search needs
+
+add-label-before-2 : tie.Need-add-label-before-2
+add-label-before-2 c = search needs
+
+add-label-before-3 : tie.Need-add-label-before-3
+add-label-before-3 c = search needs
+
+add-label-before-4 : tie.Need-add-label-before-4
+add-label-before-4 c = search needs
+
+label-before-requires-2 : tie.Need-label-before-requires-2
+label-before-requires-2 c κs = search needs
+
+add-label-before-5 : tie.Need-add-label-before-5
+add-label-before-5 c = search needs
+
+add-label-before-6 : tie.Need-add-label-before-6
+add-label-before-6 c = search needs
+
+add-label-before-7 : tie.Need-add-label-before-7
+add-label-before-7 c = search needs
+
+add-label-before-8 : tie.Need-add-label-before-8
+add-label-before-8 c = search needs
+
+add-label-before-9 : tie.Need-add-label-before-9
+add-label-before-9 c = search needs
+
+label-before-requires-3 : tie.Need-label-before-requires-3
+label-before-requires-3 c κs = search needs
+
+abreast-requires : tie.Need-abreast-requires
+abreast-requires c κs = search needs
+
+joined-requires : tie.Need-joined-requires
+joined-requires c κs = search needs
+
+add-labels-on : tie.Need-add-labels-on
+add-labels-on c = search needs
+
+add-labels-on-2 : tie.Need-add-labels-on-2
+add-labels-on-2 c = search needs
+
+add-labels-on-3 : tie.Need-add-labels-on-3
+add-labels-on-3 c = search needs
+
+add-labels-on-4 : tie.Need-add-labels-on-4
+add-labels-on-4 c = search needs
+
+labels-on-requires-2 : tie.Need-labels-on-requires-2
+labels-on-requires-2 c κs = search needs
+
+returns-2 : tie.Need-returns-2
+returns-2 c =
+    let j = c .before .before .before in
+    let a = j .before in
+    let s = a .before .before .before .before .before .before in
+    let l = s .args .cells .now in
+    let q = (length l - s .args .start) / 4 in
+    let t = a .abreast .result in
+    let f = toZ-ofZ (sfits-of (c .before .struct-told .given .1 .1 .1 .1 .0 .1)) in
+    c .labels-on2 .ensures
+    ∙ ap (λ (y : ℤ). countedOn (t .count) y (drop (s .args .start + q + q + q + q) l)) f
+    ∙ abreast-joined l (s .args .start) q _ _ _ t (a .abreast .ensures) (j .joined .ensures (c .before .before .if2 .taken))
+
+mul-labels-on-2 : tie.Need-mul-labels-on-2
+mul-labels-on-2 c = search needs
+
+shared-slice-copy-out-labels-on-2 : tie.Need-shared-slice-copy-out-labels-on-2
+shared-slice-copy-out-labels-on-2 c = search needs
+
+labels-on-requires-3 : tie.Need-labels-on-requires-3
+labels-on-requires-3 c κs = search needs
+
+returns-3 : tie.Need-returns-3
+returns-3 c =
+    let s = c .before .before .before .before .before .before .before .before .before .before in
+    let l = s .args .cells .now in
+    c .labels-on3 .ensures ∙ counted-from _ _ _ (toZ-ofZ (sfits-of (c .before .labels-on-arg2 .given)) ∙ getD-any l _ (pos 0) empty (s .pre))
 
 pub labels-from-spec : {M : Type 1} → statement M
 labels-from-spec =
     tie.close
     (tie.spec
-    Inv-loop
-    μ-loop
-    mul-last
-    shared-slice-copy-out-last
-    loop-holds
-    mul-z
-    shared-slice-copy-out-z
-    add-count
-    add-i
-    loop-less
-    loop-again
-    cast-t14
-    cast-t15
-    returns)
+    sub-q
+    mul-labels-on
+    shared-slice-copy-out-labels-on
+    labels-on-requires
+    returns
+    add-label-before
+    mul-label-before
+    shared-slice-copy-out-label-before
+    label-before-requires
+    add-label-before-2
+    add-label-before-3
+    add-label-before-4
+    label-before-requires-2
+    add-label-before-5
+    add-label-before-6
+    add-label-before-7
+    add-label-before-8
+    add-label-before-9
+    label-before-requires-3
+    abreast-requires
+    joined-requires
+    add-labels-on
+    add-labels-on-2
+    add-labels-on-3
+    add-labels-on-4
+    labels-on-requires-2
+    returns-2
+    mul-labels-on-2
+    shared-slice-copy-out-labels-on-2
+    labels-on-requires-3
+    returns-3)

@@ -19,8 +19,8 @@ use Rattle.cursors.specs.Search.{leading}
 use Rattle.cursors.proofs.Numbers.{numbers}
 use Rattle.row_check.proofs.Instants.{has-label}
 use Rattle.row_check.specs.Order.{risen}
-use Rattle.counts.specs.declared.Labels.{Labels}
 use Rattle.counts.specs.Labels.{rises, greatest, differing, counted}
+use Rattle.counts.proofs.Steps.{labels-eq}
 use Rattle.counts.proofs.Whole.{whole-leading, whole-counted}
 use Rattle.counts.proofs.Turn.{last-label, counts, rises-few}
 use Rattle.counts.proofs.labels_of.Statement.{statement}
@@ -104,16 +104,13 @@ count-read c = toZ-pos w64 (omega (arith, few (c .before)))
 add-t11 : tie.Need-add-t11
 add-t11 c = count-read c ∴ few (c .before) ∴ simp ints (omega arith)
 
-labels-eq : (a b c d : ℤ) → a ≡ c → b ≡ d → _≡_ {A = Labels} (record { count = a; last = b }) (record { count = c; last = d })
-labels-eq a b c d p q = λ i. record { count = p i; last = q i }
-
 returns-2 : tie.Need-returns-2
 unfolding counted
 returns-2 c =
     let d = c .before .before in
     let s = d .before .before in
     let n = c .before .changes .ensures in
-    labels-eq _ _ _ _
+    labels-eq
     (toZ-ofZ (add-t11 c) ∙ (count-read c ∴ n ∴ count-is d ∴ simp ints (omega arith)))
     (toZ-ofZ (widened (c .wide .ensures .1)) ∙ c .wide .ensures .0 ∙ counted-whole d .1 ∙ sym (last-is d))
 
