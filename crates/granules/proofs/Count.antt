@@ -64,6 +64,17 @@ module _ (f : ℤ → Bool) where
         λ h. absurd (true≢false (h x (List·Memᴰ·head refl)) e),
       )
 
+  -- a window in two parts
+  pub count-add : (k : ℤ) (m n : ℕ) → count (from k (m + n)) ≡ count (from k m) + count (from (k +ℤ pos m) n)
+  count-add k zero n =
+      let none : 0 + n ≡ n = omega arith in
+      let e : k ≡ k +ℤ pos 0 = simp ints (omega arith) in
+      omega (arith, ap (λ (x : ℕ). count (from k x)) none, ap (λ (z : ℤ). count (from z n)) e)
+  count-add k (suc m) n =
+      let more : suc m + n ≡ suc (m + n) = omega arith in
+      let e : k +ℤ pos 1 +ℤ pos m ≡ k +ℤ pos (suc m) = simp ints (omega arith) in
+      omega (arith, ap (λ (x : ℕ). count (from k x)) more, count-add (k +ℤ pos 1) m n, ap (λ (z : ℤ). count (from z n)) e, count-cons k (from (k +ℤ pos 1) (m + n)), count-cons k (from (k +ℤ pos 1) m))
+
   -- the window moved on by one loses its first number and gains the next
   count-step : (k : ℤ) (n : ℕ) → toNat (f k) + count (from (k +ℤ pos 1) n) ≡ count (from k n) + toNat (f (k +ℤ pos n))
   count-step k zero =
