@@ -58,6 +58,11 @@ int64_t jogipahn_down(const int32_t *h_cells, size_t h_len, int64_t h_period, in
 int64_t jogipahn_figures(const int32_t *cells, size_t len, int64_t period, int64_t distance,
                          double *openness, double *mean_length, double *mean_spacing);
 
+/* The least period of the calendar that the row means: above 0, with the number of divisors that were tried for it in *tried. These are
+ * the divisors of the greatest common divisor of period, distance and slots per period, from the greatest down to the first that gives a
+ * period; 1 counts as a try. *tried is 0 after a refusal. Refusals: 13. */
+int64_t jogipahn_least_period(const int32_t *cells, size_t len, int64_t period, int64_t distance, int64_t *tried);
+
 /* Whether a delivery may be d instants late on the slot z: 1 for yes, 0 for no. By rule 0 it may be late by `amount` instants,
  * which is finite and not below zero; by rule 1 by a share of the slot's length, a multiple of 1/256
  * above 0 and up to 1. A share of 0 and any other rule are refused with 18; a fixed 0 is not. Refusals: 13, 14, 18, 15. */

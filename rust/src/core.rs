@@ -7,7 +7,9 @@
 #[cfg(feature = "conversion")]
 pub use conversion::convert;
 #[cfg(feature = "questions")]
-pub use questions::{down, figures, may_be_late, may_be_late_by, up_granule, up_instant};
+pub use questions::{
+    down, figures, least_period, may_be_late, may_be_late_by, up_granule, up_instant,
+};
 
 #[cfg(feature = "questions")]
 mod questions {
@@ -58,6 +60,14 @@ mod questions {
             openness: *mut f64,
             mean_length: *mut f64,
             mean_spacing: *mut f64,
+        ) -> i64;
+
+        fn jogipahn_least_period(
+            cells: *const i32,
+            len: usize,
+            period: i64,
+            distance: i64,
+            tried: *mut i64,
         ) -> i64;
 
         fn jogipahn_may_be_late(
@@ -155,6 +165,26 @@ mod questions {
             0 => Ok((openness, mean_length, mean_spacing)),
             _ => Err(refusal(answer)),
         }
+    }
+
+    pub fn least_period(row: Row) -> Result<(i64, i64), u32> {
+        let mut tried = DIRT;
+        // SAFETY: the row's cells are borrowed, and the number tried is written
+        // to a number of this function.
+        let answer = unsafe {
+            jogipahn_least_period(
+                row.cells.as_ptr(),
+                row.cells.len(),
+                row.period,
+                row.distance,
+                &mut tried,
+            )
+        };
+        if answer > 0 {
+            return Ok((answer, tried));
+        }
+        assert_eq!(tried, 0, "tries beside the answer {answer}");
+        Err(refusal(answer))
     }
 
     pub fn may_be_late(row: Row, z: i64, d: i64, rule: Allowance) -> Result<bool, u32> {

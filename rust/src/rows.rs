@@ -221,13 +221,15 @@ pub enum Question {
     Down(i64, usize),
     /// The figures of the first row.
     Figures,
+    /// The least period of the first row.
+    LeastPeriod,
     /// Whether a delivery may be so late on a slot of the first row.
     MayBeLate(i64, i64, Allowance),
 }
 
 /// A random question that suits the first row.
 pub fn question(random: &mut Random, first: &OwnRow) -> Question {
-    match random.below(12) {
+    match random.below(13) {
         0 | 1 => Question::UpInstant(match random.below(8) {
             0 => random.any_i64(),
             1 => random.choose(&[1_000_000_000, -1_000_000_000, 1_000_000_001, -1_000_000_001]),
@@ -245,6 +247,7 @@ pub fn question(random: &mut Random, first: &OwnRow) -> Question {
             Question::Down(label(random, first), most)
         }
         9 => Question::Figures,
+        10 => Question::LeastPeriod,
         _ => {
             let late = match random.below(12) {
                 0 => random.any_i64(),
@@ -290,6 +293,7 @@ pub fn allowance(random: &mut Random, late: i64) -> Allowance {
         ]),
         1 => random.choose(&[
             -0.0,
+            0.0,
             0.0,
             1.0,
             1.0 + 1.0 / 256.0,

@@ -118,9 +118,8 @@ fn may_be_late(row: &OwnRow, z: i64, d: i64, rule: Allowance) -> Result<bool, u3
     Ok(d as f64 <= most)
 }
 
-fn figures(row: &OwnRow) -> Result<(f64, f64, f64), u32> {
-    test_row(row)?;
-    let open = row.cells.iter().filter(|&&cell| cell != EMPTY).count() as f64;
+/// R, the labels among N whole numbers in a row.
+fn slots(row: &OwnRow) -> i64 {
     let any: i64 = row
         .cells
         .iter()
@@ -128,9 +127,42 @@ fn figures(row: &OwnRow) -> Result<(f64, f64, f64), u32> {
         .copied()
         .unwrap()
         .into();
-    let slots = (any..any + row.distance)
+    (any..any + row.distance)
         .filter(|&label| !slot(row, label).is_empty())
-        .count() as f64;
+        .count() as i64
+}
+
+/// Whether some distance goes with that period.
+fn is_period(row: &OwnRow, period: i64) -> bool {
+    let near = -row.period..2 * row.period;
+    row.distance * period % row.period == 0
+        && near.clone().all(|t| {
+            let risen = row.distance * period / row.period;
+            label(row, t + period) == label(row, t).map(|label| label + risen)
+        })
+}
+
+fn least_period(row: &OwnRow) -> Result<(i64, i64), u32> {
+    test_row(row)?;
+    let least = (1..=row.period)
+        .find(|&period| is_period(row, period))
+        .unwrap();
+    let divides_all = |times: &i64| {
+        row.period % times == 0 && row.distance % times == 0 && slots(row) % times == 0
+    };
+    let greatest = (1..=row.period).filter(divides_all).max().unwrap();
+    // Those of its divisors with which a turn would be as long as the least
+    // period or shorter.
+    let tried = (1..=greatest)
+        .filter(|times| greatest % times == 0 && row.period / times <= least)
+        .count();
+    Ok((least, tried as i64))
+}
+
+fn figures(row: &OwnRow) -> Result<(f64, f64, f64), u32> {
+    test_row(row)?;
+    let open = row.cells.iter().filter(|&&cell| cell != EMPTY).count() as f64;
+    let slots = slots(row) as f64;
     let period = row.period as f64;
     Ok((open / period, open / slots, period / slots))
 }
@@ -208,6 +240,11 @@ fn compare(question: &Question, first: &OwnRow, second: &OwnRow) -> Option<u32> 
         Question::Figures => {
             let answer = questions::figures(one);
             assert_eq!(answer, figures(first), "{first:?}");
+            answer.err()
+        }
+        Question::LeastPeriod => {
+            let answer = questions::least_period(one);
+            assert_eq!(answer, least_period(first), "{first:?}");
             answer.err()
         }
         Question::MayBeLate(z, d, rule) => {

@@ -64,6 +64,14 @@ fn questions_are_answered_alike() {
     ] {
         assert!(count_of(blank) >= 50, "{blank}: {}", count_of(blank));
     }
+    for period in [
+        "least period: the row's own, the first tried",
+        "least period: the row's own, after others",
+        "least period: a shorter one, the first tried",
+        "least period: a shorter one, after others",
+    ] {
+        assert!(count_of(period) >= 100, "{period}: {}", count_of(period));
+    }
     for number in 13..=18 {
         let refused = format!("refused {number}");
         assert!(
@@ -157,6 +165,27 @@ fn compare(question: &Question, first: &OwnRow, other: &OwnRow) -> String {
                 "figures",
                 &expected.map_or_else(refused, |_| "three".to_owned()),
             )
+        }
+        Question::LeastPeriod => {
+            let expected = second::least_period(one);
+            assert_eq!(core::least_period(one), expected, "{first:?}");
+            let answer = match expected {
+                Ok((period, tried)) => {
+                    let found = if period == one.period {
+                        "the row's own"
+                    } else {
+                        "a shorter one"
+                    };
+                    let tries = if tried == 1 {
+                        "the first tried"
+                    } else {
+                        "after others"
+                    };
+                    format!("{found}, {tries}")
+                }
+                Err(number) => refused(number),
+            };
+            told("least period", &answer)
         }
         Question::MayBeLate(z, d, rule) => {
             let expected = second::may_be_late(one, z, d, rule);

@@ -3,11 +3,13 @@
 --     Altering     the example of altering
 --     Slips        the easy slips
 --     Examples     an example of each other kind
+--     Tries        the divisors that are tried for the least period
 --     Refused      an example of each refusal of a conversion, and their order
 --     Relations    what the relations of the algebra rule out
 pub mod Worked
 pub mod Altering
 pub mod Slips
 pub mod Examples
+pub mod Tries
 pub mod Refused
 pub mod Relations

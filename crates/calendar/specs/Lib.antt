@@ -17,6 +17,7 @@
 --     Compute      the result of each kind over rows
 --     Checks       fullness, alignment and the other checks of an entry
 --     Least        the least form of a row
+--     Tries        how many divisors are tried for it
 --     Outcome      the refusals of a table's entries in order, and their rows
 --     Stored       the headings and the pool that a conversion leaves
 --     Questions    questions to a row that was handed in
@@ -37,6 +38,7 @@ pub mod Distance
 pub mod Compute
 pub mod Checks
 pub mod Least
+pub mod Tries
 pub mod Outcome
 pub mod Stored
 pub mod Questions

@@ -53,6 +53,15 @@ pub record FiguresLeft (r : Row) (code : ℤ) (openness meanLength meanSpacing :
       → Quotients (labelledInstants r) (r .period) (granules r) (record { openness = openness; «mean_length» = meanLength; «mean_spacing» = meanSpacing })
   pub zeros : sound r ≡ false → (openness ≡ nought) × (meanLength ≡ nought) × (meanSpacing ≡ nought)
 
+-- ---- the least period, and the number tried, or 0
+abbrev pub leastCode : Reply (ℤ × ℕ) → ℤ
+leastCode (refused n) = refusalCode n
+leastCode (answer a) = a .0
+
+abbrev pub triedLeft : Reply (ℤ × ℕ) → ℤ
+triedLeft (refused n) = pos 0
+triedLeft (answer a) = pos (a .1)
+
 -- ---- lateness: 1 for yes, 0 for no
 abbrev pub lateCode : Reply Bool → ℤ
 lateCode (refused n) = refusalCode n

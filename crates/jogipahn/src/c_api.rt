@@ -7,14 +7,15 @@ ghost use lib.ListN.{length};
 ghost use Rattle.calendar.specs.Refusals.{numberOf};
 ghost use Rattle.calendar.specs.Questions.{given};
 ghost use Rattle.calendar.specs.Questions as Q;
-ghost use Rattle.questions.specs.Answers.{upReply, counted, partsAfter, mayBeLate};
+ghost use Rattle.questions.specs.Answers.{upReply, counted, partsAfter, leastPeriod, mayBeLate};
 ghost use Rattle.jogipahn.specs.LeftCoded.{LeftCoded};
-ghost use Rattle.jogipahn.specs.Codes.{refusalCode, upCode, upLabel, downCode, FiguresLeft, lateCode, allowanceOf, conversionCode};
+ghost use Rattle.jogipahn.specs.Codes.{refusalCode, upCode, upLabel, downCode, FiguresLeft, leastCode, triedLeft, lateCode, allowanceOf, conversionCode};
 use calendar::Refusal;
 use conversion::Conversion;
 use floats::Allowance;
 use questions::Figured;
 use questions::Late;
+use questions::Shortening;
 use questions::Up;
 use questions::down::Parted;
 
@@ -145,6 +146,30 @@ pub extern "C" fn jogipahn_figures(
             *openness = 0.0;
             *mean_length = 0.0;
             *mean_spacing = 0.0;
+            refusal_code(x)
+        }
+    }
+}
+
+// The least period of the row; how many divisors were tried for it, in `tried`.
+#[no_mangle]
+pub extern "C" fn jogipahn_least_period(
+    cells: &[i32],
+    period: i64,
+    distance: i64,
+    tried: &mut i64,
+) -> i64
+    ensures code { λ r. ⌜ r ≡ leastCode (leastPeriod (given period distance (now (cells .entry)))) ⌝ }
+    ensures tried { λ r. ⌜ now (tried .exit) ≡ triedLeft (leastPeriod (given period distance (now (cells .entry)))) ⌝ }
+{
+    let shortening = questions::least_period(cells, period, distance);
+    match shortening {
+        Shortening::To(shortest) => {
+            *tried = shortest.tried as i64;
+            shortest.period
+        }
+        Shortening::Refused(x) => {
+            *tried = 0;
             refusal_code(x)
         }
     }

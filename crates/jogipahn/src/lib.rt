@@ -32,8 +32,9 @@
 // A caller's code names `jogipahn` alone. Its line in crates.txt names beside `jogipahn` each crate that declares a
 // type whose values the caller makes or takes apart, since a proof cites a type where it is declared:
 //     calendar     Calendar, Refusal                  headings     Heading
-//     conversion   Conversion                         questions    Up, Parted, Figured, Late
-//     floats       Allowance, Figures                 reader       Reader
+//     conversion   Conversion                         least_form   Shortest
+//     floats       Allowance, Figures                 questions    Up, Parted, Figured, Shortening, Late
+//     reader       Reader
 // A value that is only handed on, as a refusal within an answer, needs none. `crates/caller` is such a program.
 
 // The most entries of a table, the most cells of a pool or a row, and the greatest lateness that may be asked about.
@@ -89,6 +90,7 @@ pub use conversion::convert as convert_plain;
 //     down(g, z, parts)    the slots of g that make up slot z, rising, in a lent list; refuses 14, 15, 16, 17, and
 //                          leaves the list zero then
 //     figures()            openness, mean length of a slot and mean spacing
+//     least_period()       the least period, and how many divisors were tried for it
 //     may_be_late(z, d, a) whether slot z may be d instants late; refuses 14, 18, 15
 // Beyond the pass over each row up from a slot and down take time in proportion to the slots and their gaps.
 pub use reader::Reader;
@@ -96,8 +98,10 @@ pub use reader::Reader;
 // Answers, and how late a delivery may be.
 pub use floats::Allowance;
 pub use floats::Figures;
+pub use least_form::Shortest;
 pub use questions::Figured;
 pub use questions::Late;
+pub use questions::Shortening;
 pub use questions::Up;
 pub use questions::down::Parted;
 
@@ -105,6 +109,7 @@ pub use questions::down::Parted;
 // hold no reader.
 pub use questions::down::down;
 pub use questions::figures;
+pub use questions::least_period;
 pub use questions::may_be_late;
 pub use questions::up_granule;
 pub use questions::up_instant;

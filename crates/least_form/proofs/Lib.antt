@@ -1,9 +1,13 @@
 -- The laws of the search for the least period.
 --     Cells        one cell repeats another with a rise
---     Turns        a row is so many turns of its least row, and the cells alone tell how many
 --     Divisors     the divisors of a number, from the greatest down
+--     Common       gcd(P, N, R) of a row
+--     Turns        a row is so many turns of its least row, and the cells alone tell how many
+--     Trying       the divisors that are tried, and the test of one
 --     Search       the search over the divisors, step by step
 pub mod Cells
-pub mod Turns
 pub mod Divisors
+pub mod Common
+pub mod Turns
+pub mod Trying
 pub mod Search

@@ -3,22 +3,24 @@
 -- Assumes nothing.
 use mathlib.Core.Path.{_≡_, sym, _∙_, ap}
 use Prim.Native.Nat.{ℕ, zero, suc, _+_, _-_, _*_, _/_, _≤_, _<_, _∣_}
-use native.Mathlib.Nat.{mul-le-mul-right, le-of-mul-le-mul-left, dvd-trans, div-eq-of-eq-mul-left, div-mul-cancel}
+use native.Mathlib.Nat.{mul-le-mul-right, le-of-mul-le-mul-left, div-eq-of-eq-mul-left, div-mul-cancel}
 use native.Mathlib.Decide.{decLe}
 use native.Mathlib.Omega.{arith}
 use lib.IntN.{ℤ, pos}
 use lib.ListN.{length}
-use Rattle.integers.specs.Gcd.{gcd}
 use Rattle.integers.proofs.Linear.{ints, _∴_}
-use Rattle.integers.proofs.Divisors.{gcd-dvd, gcd-greatest}
 use Rattle.calendar.specs.Meaning.{Row, meant, Repeats, raise}
+use Rattle.calendar.specs.Granules.{granules}
 use Rattle.calendar.specs.Least.{least}
+use Rattle.calendar.specs.Tries.{common}
 use Rattle.granules.specs.Valid.{Valid}
 use Rattle.granules.proofs.Calendars.{raise-zero, raise-raise}
-use Rattle.granules.proofs.Rows.{cellLabel, meant-repeats, meant-cell, valid-calendar}
+use Rattle.granules.proofs.Rows.{cellLabel, meant-repeats, meant-cell, valid-calendar, valid-of-least}
 use Rattle.granules.proofs.Least.{repeats-of-turn, least-row, least-divides, least-repeats}
+use Rattle.granules.proofs.Turns.{granules-turns}
 use Rattle.least_form.specs.Cells.{RepeatsWithin}
 use Rattle.least_form.proofs.Divisors.{factor-dvd, factor-pos}
+use Rattle.least_form.proofs.Common.{common-dvd, common-greatest}
 
 -- ---- the test on the cells
 
@@ -68,6 +70,10 @@ repeats-cells r whole q n h t l =
     ∙ h (pos t)
     ∙ ap (raise (pos n)) (meant-cell r t (omega arith))
 
+-- the cells pass with m turns
+abbrev pub Passes : Row → ℕ → Type 0
+Passes r m = RepeatsWithin (r .cells) (r .period / m) (pos (r .distance / m))
+
 -- ---- turns of the least row
 
 -- a row is so many turns of its least row
@@ -91,26 +97,42 @@ module _ (r : Row) (v : Valid r) (t : Turns r) where
   pub count-least : r .period / t .count ≡ least r .period
   count-least = div-eq-of-eq-mul-left (t .above) (sym (t .period-is))
 
-  -- the number of turns divides the period and the distance
-  pub count-dvd : t .count ∣ gcd (r .period) (r .distance)
-  count-dvd =
-      gcd-greatest (t .count) (r .period) (r .distance)
+  -- R is so many times that of the least row
+  granules-is : granules (least r) * t .count ≡ granules r
+  granules-is =
+      let l = least-row r v in
+      let w = valid-of-least (least r) (meant r) (valid-calendar r v) l in
+      sym (granules-turns r (least r) v w (λ u. sym (l .means u)) (t .count) (sym (t .distance-is)))
+
+  -- only common divisors of P, N and R need trying: the number of turns is one
+  pub count-common : t .count ∣ common r
+  count-common =
+      common-greatest r (t .count)
       (factor-dvd (least r .period) (t .count) (r .period) (t .period-is))
       (factor-dvd (least r .distance) (t .count) (r .distance) (t .distance-is))
+      (factor-dvd (granules (least r)) (t .count) (granules r) granules-is)
 
   -- the cells pass with it
-  pub count-passes : RepeatsWithin (r .cells) (r .period / t .count) (pos (r .distance / t .count))
+  pub count-passes : Passes r (t .count)
   count-passes =
       rw (count-least, div-eq-of-eq-mul-left (t .above) (sym (t .distance-is)))
       (repeats-cells r (v .whole) (least r .period) (least r .distance) (least-repeats (meant r) (least r) (least-row r v)))
 
   -- and with no greater divisor
-  pub passes-le : (m : ℕ) → m ∣ gcd (r .period) (r .distance) → RepeatsWithin (r .cells) (r .period / m) (pos (r .distance / m)) → m ≤ t .count
+  pub passes-le : (m : ℕ) → m ∣ common r → Passes r m → m ≤ t .count
   passes-le m d h =
       let q = r .period / m in
       let n = r .distance / m in
-      let e : q * m ≡ r .period = div-mul-cancel m (dvd-trans m d (gcd-dvd (r .period) (r .distance) .0)) in
-      let f : n * m ≡ r .distance = div-mul-cancel m (dvd-trans m d (gcd-dvd (r .period) (r .distance) .1)) in
+      let e : q * m ≡ r .period = div-mul-cancel m (common-dvd r m d .0) in
+      let f : n * m ≡ r .distance = div-mul-cancel m (common-dvd r m d .1) in
       let l = least-row r v in
       let shorter : least r .period ≤ q = l .least q n (factor-pos m q (r .period) (v .positive .0) (omega arith)) (factor-pos m n (r .distance) (v .positive .1) (omega arith)) (cells-repeat r v q n m e f h) in
       le-of-mul-le-mul-left (omega (arith, mul-le-mul-right m shorter, t .period-is)) (l .positive .0)
+
+-- R of the least row, by that of the row
+pub granules-least : (r : Row) → Valid r → granules r * least r .period / r .period ≡ granules (least r)
+granules-least r v =
+    let t = turns r v in
+    let R = granules (least r) in
+    div-eq-of-eq-mul-left (v .positive .0)
+    (ap (λ (n : ℕ). n * least r .period) (sym (granules-is r v t)) ∙ omega (arith, ap (λ (n : ℕ). R * n) (t .period-is)))

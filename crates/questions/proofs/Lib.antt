@@ -3,7 +3,9 @@
 --     Cleared      a list that is made zero
 --     Checks       the reply of `down`, check by check
 --     Lateness     lateness: when each reply is given
+--     Shortest     the least period: when each reply is given
 pub mod Lengths
 pub mod Cleared
 pub mod Checks
 pub mod Lateness
+pub mod Shortest

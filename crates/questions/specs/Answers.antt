@@ -1,4 +1,5 @@
--- The answers of the code, in document 01's numbers and values; and the two questions that speak of binary64 numbers.
+-- The answers of the code, in document 01's numbers and values; the two questions that speak of binary64 numbers; and document
+-- 02's, of the least period.
 use mathlib.Core.Path.{_≡_}
 use mathlib.Core.Option.{Option, none, some}
 use mathlib.Core.Bool.{Bool, true, false, _&&_}
@@ -13,6 +14,8 @@ use Rattle.calendar.specs.Reply.Reply.{refused, answer}
 use Rattle.calendar.specs.Granules.{has, granules}
 use Rattle.calendar.specs.Limits.{lateLimit, between, inRange}
 use Rattle.calendar.specs.Sound.{sound}
+use Rattle.calendar.specs.Least.{least}
+use Rattle.calendar.specs.Tries.{tries}
 use Rattle.calendar.specs.Lists.{filled}
 use Rattle.calendar.specs.Questions.{labelledInstants, granuleLength}
 use Rattle.calendar.specs.Refusals.{numberOf}
@@ -22,6 +25,7 @@ use Rattle.floats.specs.declared.Allowance.{Allowance}
 use Rattle.questions.specs.declared.Up as Up
 use Rattle.questions.specs.declared.down.Parted as Parted
 use Rattle.questions.specs.declared.Figured as Figured
+use Rattle.questions.specs.declared.Shortening as Shortening
 use Rattle.questions.specs.declared.Late as Late
 
 abbrev pub upReply : Up.Up → Reply (Option ℤ)
@@ -47,6 +51,14 @@ partsAfter n (answer l) = filled n (pos 0) l
 abbrev pub FiguresOf : Row → Figured.Figured → Type 0
 FiguresOf r (Figured.the-variants.Are v) = (sound r ≡ true) × Quotients (labelledInstants r) (r .period) (granules r) v
 FiguresOf r (Figured.the-variants.Refused x) = (sound r ≡ false) × (numberOf x ≡ 13)
+
+-- the least period of a row that is handed in, and how many divisors the search tries
+unfoldable pub leastPeriod : Row → Reply (ℤ × ℕ)
+leastPeriod r = require 13 (sound r) (answer (pos (least r .period), tries r))
+
+abbrev pub shorteningReply : Shortening.Shortening → Reply (ℤ × ℕ)
+shorteningReply (Shortening.the-variants.To s) = answer (s .period, s .tried)
+shorteningReply (Shortening.the-variants.Refused x) = refused (numberOf x)
 
 -- "may a delivery be d instants late on slot z?"
 unfoldable pub mayBeLate : Row → ℤ → ℤ → Allowance → Reply Bool

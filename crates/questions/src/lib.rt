@@ -1,5 +1,5 @@
-// Questions to a row that is handed in with its period and distance: up, figures and lateness; down is in its own
-// file. Nothing is asked of the caller: any slice and any numbers have an answer or one numbered refusal. What a
+// Questions to a row that is handed in with its period and distance: up, figures, the least period and lateness; down
+// is in its own file. Nothing is asked of the caller: any slice and any numbers have an answer or one numbered refusal. What a
 // question asks stands before the row, so that a reader of a row can hand on its fields.
 
 ghost use mathlib.Core.Path.{_≡_};
@@ -16,13 +16,14 @@ ghost use Rattle.calendar.specs.Questions as Q;
 ghost use Rattle.calendar.specs.Questions.{given, upFromInstant, upFromGranule};
 ghost use Rattle.floats.specs.Allowance as F;
 ghost use Rattle.cursors.specs.Found.{Sound, Within, Labelled};
-ghost use Rattle.questions.specs.Answers.{upReply, FiguresOf, lateReply, mayBeLate};
+ghost use Rattle.questions.specs.Answers.{upReply, FiguresOf, leastPeriod, shorteningReply, lateReply, mayBeLate};
 use calendar::Calendar;
 use calendar::LATE_LIMIT;
 use calendar::Refusal;
 use cursors::Found;
 use floats::Allowance;
 use floats::Figures;
+use least_form::Shortest;
 
 pub mod down;
 
@@ -35,6 +36,12 @@ pub enum Up {
 
 pub enum Figured {
     Are(Figures),
+    Refused(Refusal),
+}
+
+// The least period, and how many divisors were tried for it.
+pub enum Shortening {
+    To(Shortest),
     Refused(Refusal),
 }
 
@@ -114,6 +121,19 @@ pub fn figures(cells: &[i32], period: i64, distance: i64) -> Figured
     let granules = counts::granules(cells, period, distance);
     let shown = floats::figures_of(labelled as u64, period as u64, granules as u64);
     Figured::Are(shown)
+}
+
+// The least period of the row, and how many common divisors of period, distance and granules were tried for it, the
+// greatest first. Refuses 13. Costs three passes over the row, one of them for check 13, and at most one for each try.
+pub fn least_period(cells: &[i32], period: i64, distance: i64) -> Shortening
+    ensures { λ r. ⌜ shorteningReply r ≡ leastPeriod (given period distance (now (cells .entry))) ⌝ }
+{
+    if !row_check::sound(cells, period, distance) {
+        return Shortening::Refused(Refusal::RowNotSound);
+    }
+    let granules = counts::granules(cells, period, distance);
+    let shortest = least_form::least_period(cells, period, distance, granules);
+    Shortening::To(shortest)
 }
 
 // d may be a lateness.

@@ -3,13 +3,14 @@
 use floats::Allowance;
 use questions::Figured;
 use questions::Late;
+use questions::Shortening;
 use questions::Up;
 use questions::down::Parted;
 ghost use mathlib.Core.Path.{_≡_};
 ghost use lib.ListN.{length};
 ghost use Rattle.calendar.specs.Questions as Q;
 ghost use Rattle.calendar.specs.Questions.{given, upFromInstant, upFromGranule};
-ghost use Rattle.questions.specs.Answers.{upReply, partsReply, counted, partsAfter, FiguresOf, lateReply, mayBeLate};
+ghost use Rattle.questions.specs.Answers.{upReply, partsReply, counted, partsAfter, FiguresOf, leastPeriod, shorteningReply, lateReply, mayBeLate};
 
 // One row, borrowed together with its period and distance.
 pub struct Reader<'a> {
@@ -33,6 +34,14 @@ impl<'a> Reader<'a> {
         ensures { λ r. ⌜ FiguresOf (given (self .entry .period) (self .entry .distance) (now (self .entry .cells))) r ⌝ }
     {
         questions::figures(self.cells, self.period, self.distance)
+    }
+
+    // The least period of the row, and how many common divisors of period, distance and slots were tried for it, the
+    // greatest first. Refuses 13. Costs three passes over the row, and at most one for each try.
+    pub fn least_period(self) -> Shortening
+        ensures { λ r. ⌜ shorteningReply r ≡ leastPeriod (given (self .entry .period) (self .entry .distance) (now (self .entry .cells))) ⌝ }
+    {
+        questions::least_period(self.cells, self.period, self.distance)
     }
 
     // Whether a delivery may be d instants late on the slot z. Refuses 13, 14 for z or d outside the limits, 18 for a

@@ -1,6 +1,7 @@
 -- The least row of a working row in the pool.
 -- Assumes nothing.
 use mathlib.Core.Path.{_≡_, refl, sym, _∙_, ap, ap₂}
+use mathlib.Core.Bool.{true}
 use mathlib.Core.List.{List, _∷_, _++_}
 use Prim.Native.Nat.{ℕ, _+_, _*_, _≤_}
 use native.Mathlib.Nat.{mul-le-mul-right, div-le-of-le-mul}
@@ -17,6 +18,7 @@ use Rattle.calendar.specs.Meaning.{Row}
 use Rattle.calendar.specs.Limits.{poolLimit, headingLength}
 use Rattle.calendar.specs.Least.{least}
 use Rattle.calendar.specs.Questions.{given}
+use Rattle.calendar.specs.Sound.{sound}
 use Rattle.granules.specs.Valid.{Valid}
 use Rattle.granules.proofs.Least.{least-shorter}
 use Rattle.granules.proofs.Sound.{sound-valid, sound-limits}
@@ -66,8 +68,11 @@ module _ (period distance : ℤ) (used : ℕ) (pool : List ℤ) (w : Worked peri
   pub ending-is : ending ≡ used + up period
   ending-is = end-read stands fits (w .low)
 
-  pub handed-row : handed pool stands ending ≡ row
+  handed-row : handed pool stands ending ≡ row
   handed-row = handed-is pool stands ending fits ending-is
+
+  pub handed-sound : sound (handed pool stands ending) ≡ true
+  handed-sound = rw handed-row (w .is-sound)
 
   row-valid : Valid row
   row-valid = sound-valid row (w .is-sound)

@@ -102,7 +102,9 @@ fn least_of(period: i64, distance: i64, used: usize, pool: &[i32]) -> i64
     ensures { λ r. ⌜ r ≡ pos (least (given period distance (take (up period) (drop used (now (pool .entry))))) .period) ⌝ }
 {
     let end = used + period as usize;
-    least_form::least_period(&pool[used..end], period, distance)
+    let granules = counts::granules(&pool[used..end], period, distance);
+    let found = least_form::least_period(&pool[used..end], period, distance, granules);
+    found.period
 }
 
 // Writes the heading of the least row of the working row from `used` on; the answer is the cell behind the least row.

@@ -322,5 +322,16 @@ fn worst_cases() -> Vec<(&'static str, Vec<Entry>)> {
         ("alter, the same, by too much", altered(1_000_000, -1)),
         ("alter back to bottom", altered(500_001, -1)),
         ("union shortened from 262,080 cells to 1", joined),
+        ("all days but 110,880 of 332,640", all_but(110_880)),
+        ("all days but 2,520 of 332,640", all_but(2_520)),
+        ("all days but 1 of 332,640", all_but(1)),
     ]
+}
+
+/// Bottom less some days at the end of each 332,640: P and N have very many
+/// common divisors, and the row is regular up to those days.
+fn all_but(closed: i32) -> Vec<Entry> {
+    let days = 332_640;
+    let last = [6, 0, 1, days - closed, closed, 0];
+    vec![BOTTOM, group(0, days), last, [11, 0, 2, 0, 0, 0]]
 }

@@ -54,7 +54,7 @@ pub fn times_repeated(cells: &[i32], distance: i64, slots: i64) -> i64 {
 
 /// Whether each cell has the label that stands `period` cells before it, risen
 /// by the distance.
-fn repeats(cells: &[i32], period: i64, distance: i64) -> bool {
+pub fn repeats(cells: &[i32], period: i64, distance: i64) -> bool {
     let distance = distance as i32;
     let later = &cells[period as usize..];
     later.iter().zip(cells).all(|(&later, &earlier)| {

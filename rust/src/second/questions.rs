@@ -4,6 +4,8 @@
 //! each. Beyond that it looks at the slots asked about and the gaps next to
 //! them, not at the whole row.
 
+use super::least::repeats;
+use super::numbers::gcd;
 use super::{CELL_LIMIT, EMPTY, LABEL_LIMIT};
 
 /// A row handed in with its period and distance, which may be any numbers.
@@ -107,21 +109,30 @@ fn list_parts(h: Row, g: Row, z: i64, parts: &mut [i64]) -> Result<usize, u32> {
 /// The open part of the instants, the mean slot length, the mean spacing.
 pub fn figures(row: Row) -> Result<(f64, f64, f64), u32> {
     let calendar = Calendar::tested(row)?;
-    let mut open = 0;
-    let mut slots = 0;
-    let mut before = calendar.label_before(0);
-    for &cell in calendar.cells {
-        if cell != EMPTY {
-            open += 1;
-            slots += i64::from(i64::from(cell) != before);
-            before = i64::from(cell);
-        }
-    }
+    let open = calendar.cells.iter().filter(|&&cell| cell != EMPTY).count() as i64;
+    let slots = calendar.slots_per_period();
     Ok((
         quotient(open, calendar.period),
         quotient(open, slots),
         quotient(calendar.period, slots),
     ))
+}
+
+/// The least period, and how many divisors of gcd(P, N, R) are tried from the
+/// greatest down to the first that gives a period.
+pub fn least_period(row: Row) -> Result<(i64, i64), u32> {
+    let calendar = Calendar::tested(row)?;
+    let (period, distance) = (calendar.period, calendar.distance);
+    let common = gcd(gcd(period, distance), calendar.slots_per_period());
+    let divisors = (1..=common).rev().filter(|times| common % times == 0);
+    let mut tried = 0;
+    for times in divisors {
+        tried += 1;
+        if repeats(calendar.cells, period / times, distance / times) {
+            return Ok((period / times, tried));
+        }
+    }
+    unreachable!("a row repeats after its own period")
 }
 
 /// Whether a delivery may be d instants late on slot z.
@@ -205,6 +216,17 @@ impl<'a> Calendar<'a> {
             first,
             last,
         })
+    }
+
+    /// R: a label counts where it is another than the one before it.
+    fn slots_per_period(&self) -> i64 {
+        let mut slots = 0;
+        let mut before = self.label_before(0);
+        for &cell in self.cells.iter().filter(|&&cell| cell != EMPTY) {
+            slots += i64::from(i64::from(cell) != before);
+            before = i64::from(cell);
+        }
+        slots
     }
 
     fn label(&self, t: i64) -> Option<i64> {
