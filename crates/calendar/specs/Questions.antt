@@ -6,12 +6,13 @@ use mathlib.Core.List.{List}
 use Prim.Native.Nat.{ℕ}
 use lib.Dec.{leb}
 use lib.IntN.{ℤ, pos, _+ℤ_, _-ℤ_}
+use lib.Signed.{leZ}
 use lib.ListN.{length}
 use Rattle.integers.specs.Parts.{up}
 use Rattle.calendar.specs.Meaning.{Row, meant}
 use Rattle.calendar.specs.Reply.{Reply, require}
 use Rattle.calendar.specs.Reply.Reply.{answer}
-use Rattle.calendar.specs.Lists.{any, all, first, last, is}
+use Rattle.calendar.specs.Lists.{any, all, keep, first, last, is}
 use Rattle.calendar.specs.Granules.{has, granule, inside, within}
 use Rattle.calendar.specs.Limits.{inRange}
 use Rattle.calendar.specs.Sound.{labelsOf, sound}
@@ -65,6 +66,11 @@ down h g z room =
 -- "labelled instants per period"
 abbrev pub labelledInstants : Row → ℕ
 labelledInstants r = length (labelsOf (r .cells))
+
+-- "the instant's place among the slot's own instants, from 1" (document 02, Req 08): how many of these are not after it
+unfoldable pub place : Row → ℤ → ℤ → ℕ
+unfolding granule
+place r j t = length (keep (λ u. leZ u t) (granule r j))
 
 -- "The slot's length is last instant − first instant + 1."
 unfoldable pub granuleLength : Row → ℤ → ℕ

@@ -149,6 +149,10 @@ rising-unique (j ∷ l) (k ∷ m) r s h =
 pub lists-unique : {S : ℤ → Type 0} (l m : List ℤ) → Lists S l → Lists S m → l ≡ m
 lists-unique l m x y = rising-unique l m (x .rising) (y .rising) (λ i. Iff·trans (Iff·symm (x .member i)) (y .member i))
 
+-- two sets with the same members have the same list
+pub lists-as : (S S′ : ℤ → Type 0) (l : List ℤ) → ((k : ℤ) → S k ↔ S′ k) → Lists S l → Lists S′ l
+lists-as S S′ l e L = record { rising = L .rising; member = λ k. Iff·trans (Iff·symm (e k)) (L .member k) }
+
 -- a rising list whose members are those of another one up to some of them is a front of it
 pub front-of : (l m : List ℤ) → Rising l → Rising m → ((k : ℤ) → List·Memᴰ k l → List·Memᴰ k m)
     → ((k j : ℤ) → List·Memᴰ k m → List·Memᴰ j l → k ≤ℤ j → List·Memᴰ k l) → (n : List ℤ) × (m ≡ l ++ n)

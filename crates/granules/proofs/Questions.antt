@@ -7,18 +7,18 @@ use mathlib.Core.List.{List, [], _∷_, List·Memᴰ}
 use Prim.Native.Nat.{ℕ, suc, _≤_, _<_}
 use native.Mathlib.Omega.{arith}
 use lib.IntN.{ℤ, pos, _+ℤ_, _-ℤ_}
-use lib.Signed.{_≤ℤ_}
+use lib.Signed.{_≤ℤ_, leZ}
 use lib.ListN.{length, getD}
 use Rattle.integers.proofs.Linear.{ints, _∴_}
 use Rattle.integers.proofs.Order.{pos-up}
 use Rattle.calendar.specs.Meaning.{Row, meant, Has, Inside, labelOf, empty, raise}
-use Rattle.calendar.specs.Algebra.{Rising}
+use Rattle.calendar.specs.Algebra.{Rising, Lists}
 use Rattle.calendar.specs.Lists.{any, keep, from, first, last, is, isSome}
 use Rattle.calendar.specs.Granules.{granule, inside, within}
-use Rattle.calendar.specs.Questions.{holder, madeUp, labelledInstants, granuleLength}
+use Rattle.calendar.specs.Questions.{holder, madeUp, labelledInstants, place, granuleLength}
 use Rattle.granules.specs.Valid.{Valid}
-use Rattle.granules.proofs.Tests.{some-inj, none≢some, none-or-some, is-iff}
-use Rattle.granules.proofs.Lists.{all-iff, any-iff, first-least, last-greatest}
+use Rattle.granules.proofs.Tests.{some-inj, none≢some, none-or-some, is-iff, leZ-iff}
+use Rattle.granules.proofs.Lists.{mem-keep, all-iff, any-iff, rising-keep, lists-unique, first-least, last-greatest}
 use Rattle.granules.proofs.Calendars.{granule-near}
 use Rattle.granules.proofs.Rows.{meant-repeats, meant-cell}
 use Rattle.granules.proofs.Granule.{granule-lists}
@@ -126,6 +126,25 @@ labelled-window r v s =
     ∙ ap (λ (n : ℕ). count f (from (pos 0) n)) (sym (v .whole))
     ∙ count-same f (λ z. isSome (labelOf z)) (r .cells) (pos 0)
     (λ k p. ap f (simp ints (omega arith)) ∙ ap isSome (meant-cell r k (omega (arith, v .whole))))
+
+-- ---- the place of an instant in its granule
+
+-- over the meaning: however the instants of the granule up to t are listed, there are so many
+pub place-lists : (r : Row) → Valid r → (j t : ℤ) (l : List ℤ) → Lists (λ u. (meant r u ≡ some j) × (u ≤ℤ t)) l → length l ≡ place r j t
+unfolding place
+place-lists r v j t l x = ap length (lists-unique l (keep f (granule r j)) x kept)
+  where
+    f : ℤ → Bool
+    f u = leZ u t
+
+    kept : Lists (λ u. (meant r u ≡ some j) × (u ≤ℤ t)) (keep f (granule r j))
+    kept = let g = granule-lists r v j in record {
+      rising = rising-keep f (granule r j) (g .rising);
+      member = λ u. (
+        λ h. mem-keep f u (granule r j) .1 (g .member u .0 (h .0), leZ-iff u t .1 (h .1)),
+        λ m. let h = mem-keep f u (granule r j) .0 m in (g .member u .1 (h .0), leZ-iff u t .0 (h .1)),
+      );
+    }
 
 -- ---- the length of a granule
 

@@ -2,7 +2,6 @@
 use mathlib.Core.Path.{_≡_, _∙_, ap, subst}
 use mathlib.Core.Logic.{_↔_, Iff·symm, _⊎_, inl, inr}
 use mathlib.Core.Option.{some}
-use mathlib.Core.List.{List}
 use Prim.Native.Nat.{ℕ, _+_}
 use native.Mathlib.Omega.{arith}
 use lib.IntN.{ℤ, pos, _+ℤ_, _-ℤ_}
@@ -12,14 +11,11 @@ use Rattle.integers.proofs.Order.{le-or-lt, <ℤ→≤ℤ}
 use Rattle.calendar.specs.Meaning.{Calendar, Has, Full, Same, IsCalendar}
 use Rattle.calendar.specs.Operation.Unary.{shift, renumber}
 use Rattle.calendar.specs.Operation.Operation.{unary}
-use Rattle.calendar.specs.Algebra.{Lists, Renumbered, Result}
+use Rattle.calendar.specs.Algebra.{Renumbered, Result}
+use Rattle.granules.proofs.Lists.{lists-as}
 use Rattle.laws.proofs.Count.{Between, between, count, count-is, count-none, count-full, count-sum, count-label, label-counted, label-above, label-below}
 use Rattle.laws.proofs.Intermediate.{Reached, reached}
 use Rattle.laws.proofs.Pointwise.{Maps, maps-same}
-
--- two sets with the same members have the same list
-lists-as : (S S′ : ℤ → Type 0) (l : List ℤ) → ((k : ℤ) → S k ↔ S′ k) → Lists S l → Lists S′ l
-lists-as S S′ l e L = record { rising = L .rising; member = λ k. (λ s. L .member k .0 (e k .1 s), λ m. e k .0 (L .member k .1 m)) }
 
 module _ (c : Calendar) (is : IsCalendar c) (x : ℤ) where
   -- how many labels stand from x up to z, counted negative below x

@@ -1,7 +1,7 @@
 -- `granule_ends::end_instant` meets its contract: it is a walk to the end of the granule.
 -- Assumes nothing.
 use borrow.Author.Needs.{needs, sfits-of}
-use mathlib.Core.Path.{_≡_, sym, _∙_, ap, ap₂, subst₂}
+use mathlib.Core.Path.{_≡_, sym, _∙_, ap}
 use mathlib.Core.Option.{some}
 use Prim.Native.Nat.{ℕ, _<_, _^_}
 use native.Mathlib.Omega.{arith}
@@ -16,13 +16,14 @@ use Rattle.calendar.specs.Meaning.{Row, meant}
 use Rattle.calendar.specs.Granules.{granule}
 use Rattle.calendar.specs.Questions.{given}
 use Rattle.granules.specs.Valid.{Valid}
-use Rattle.granules.proofs.Tests.{some-inj, none≢some}
+use Rattle.granules.proofs.Tests.{none≢some}
 use Rattle.cursors.specs.Found.{Sound, Within, Near, found}
 use Rattle.cursors.specs.Cursor.{cursorAt}
 use Rattle.cursors.specs.Direction.{stepped}
 use Rattle.cursors.proofs.Numbers.{numbers, valid}
 use Rattle.cursors.proofs.Direction.{away-near}
 use Rattle.granule_ends.specs.Ends.{endOf}
+use Rattle.granule_ends.proofs.Inputs.{read, read-sound, read-within, read-holds}
 use Rattle.granule_ends.proofs.Walks.{Walk, left, walk-start, walk-past, walk-to, walk-end, walk-less}
 use Rattle.granule_ends.proofs.end_instant.Statement.{statement}
 use Rattle.granule_ends.proofs.end_instant.Tie as tie
@@ -38,39 +39,25 @@ abbrev Start : Type 0
 Start = tie.Start Inv-loop μ-loop
 
 abbrev P : Start → ℤ
-P c = toZ w64 (ofZ w64 (c .args .period))
+P c = read (c .args .period)
 
 abbrev N : Start → ℤ
-N c = toZ w64 (ofZ w64 (c .args .distance))
+N c = read (c .args .distance)
 
 abbrev T : Start → ℤ
-T c = toZ w64 (ofZ w64 (c .args .t))
+T c = read (c .args .t)
 
 abbrev row : Start → Row
 row c = given (P c) (N c) (c .args .cells .now)
 
 sound : (c : Start) → Sound (P c) (N c) (c .args .cells .now)
-sound c =
-    let p = c .fits .period in
-    let d = c .fits .distance in
-    simp plain (c .pre .0)
-
--- what holds of the row as the machine has it, and of its label at t
-ends : (c : Start) (Q : Row → ℤ → Type 0) {i j : ℤ} → Q (row c) i → meant (row c) (T c) ≡ some i → meant (given (c .args .period) (c .args .distance) (c .args .cells .now)) (c .args .t) ≡ some j
-    → Q (given (c .args .period) (c .args .distance) (c .args .cells .now)) j
-ends c Q {i} {j} h o e =
-    let p = c .fits .period in
-    let d = c .fits .distance in
-    let t = c .fits .t in
-    let r : row c ≡ given (c .args .period) (c .args .distance) (c .args .cells .now) = simp plain in
-    let u : T c ≡ c .args .t = simp plain in
-    subst₂ Q r (some-inj (sym o ∙ ap₂ meant r u ∙ e)) h
+sound c = read-sound (c .args .cells .now) (c .fits .period) (c .fits .distance) (c .pre .0)
 
 rules : (c : Start) → Valid (row c)
 rules c = valid (P c) (N c) (c .args .cells .now) (sound c)
 
 near-start : (c : Start) → Within (2 ^ 59) (T c)
-near-start c = let t = c .fits .t in simp plain (c .pre .1 .1)
+near-start c = read-within (c .fits .t) (c .pre .1 .1)
 
 near : (c : Start) → Near (T c)
 near c = near-start c ∴ simp ints (omega arith)
@@ -183,7 +170,7 @@ returns-2 c j e =
     let f =
     walk-end (row s) (rules s) (s .args .back) (T s) _ _ _ _ (instant d) _ b (cursor-is d) (instant-is d) _ (label-some (c .before))
     (λ q. c .if1 .taken (ap (ofZ w64) (sym (toZ-ofZ k) ∙ q ∙ toZ-ofZ o))) in
-    ends s (λ r i. toZ w64 (at-loop d .loop .end) ≡ endOf (s .args .back) (granule r i)) f (b .own) e
+    read-holds (s .args .cells .now) (s .fits .period) (s .fits .distance) (s .fits .t) (λ r u i. toZ w64 (at-loop d .loop .end) ≡ endOf (s .args .back) (granule r i)) f (b .own) e
 
 less : (d : tie.After-cursor-label2 Inv-loop μ-loop) → let s = start d in left (s .args .back) (up (P s)) (T s) (instant d) < left (s .args .back) (up (P s)) (T s) (here (at-loop d))
 less d = walk-less (row (start d)) (rules (start d)) (start d .args .back) (T (start d)) _ _ _ _ (instant d) _ (at-loop d .loop .inv) (cursor-is d) (instant-is d)
