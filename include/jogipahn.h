@@ -64,8 +64,9 @@ int64_t jogipahn_figures(const int32_t *cells, size_t len, int64_t period, int64
 int64_t jogipahn_least_period(const int32_t *cells, size_t len, int64_t period, int64_t distance, int64_t *tried);
 
 /* Whether a delivery may be d instants late on the slot z: 1 for yes, 0 for no. By rule 0 it may be late by `amount` instants,
- * which is finite and not below zero; by rule 1 by a share of the slot's length, a multiple of 1/256
- * above 0 and up to 1. A share of 0 and any other rule are refused with 18; a fixed 0 is not. Refusals: 13, 14, 18, 15. */
+ * which is finite and not below zero; by rule 1 by a share of the slot's length, a multiple of 1/256 above 0 and up to 1. The length
+ * is the number of the slot's own instants: closed days inside it don't count. A share of 0 and any other rule are refused with 18; a
+ * fixed 0 is not. Refusals: 13, 14, 18, 15. */
 int64_t jogipahn_may_be_late(const int32_t *cells, size_t len, int64_t period, int64_t distance,
                              int64_t z, int64_t d, int64_t rule, double amount);
 

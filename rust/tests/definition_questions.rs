@@ -5,7 +5,7 @@
 #![allow(clippy::manual_range_contains)]
 
 use jogipahn_compare::random::Random;
-use jogipahn_compare::rows::{damage, question, whole_rows, OwnRow, Question, DAMAGES};
+use jogipahn_compare::rows::{damage, question, whole_row, whole_rows, OwnRow, Question, DAMAGES};
 use jogipahn_compare::second::questions::{self, Allowance};
 use jogipahn_compare::second::EMPTY;
 
@@ -110,7 +110,7 @@ fn may_be_late(row: &OwnRow, z: i64, d: i64, rule: Allowance) -> Result<bool, u3
         Allowance::Share(amount) => refuse_if(!shares.contains(&amount), 18)?,
     }
     let instants = slot_asked(row, z)?;
-    let length = instants[instants.len() - 1] - instants[0] + 1;
+    let length = instants.len();
     let most = match rule {
         Allowance::Fixed(amount) => amount,
         Allowance::Share(amount) => amount * length as f64,
@@ -257,4 +257,32 @@ fn compare(question: &Question, first: &OwnRow, second: &OwnRow) -> Option<u32> 
             answer.err()
         }
     }
+}
+
+#[test]
+fn closed_days_are_no_part_of_a_slot() {
+    let (mut asked, mut else_allowed) = (0, 0);
+    for seed in 0..20_000 {
+        let mut random = Random::new(0xC105ED_0000 + seed);
+        let row = whole_row(&mut random, 40);
+        let z = label(&row, random.range(-40, 40)).unwrap_or(0);
+        let instants = slot(&row, z);
+        if instants.is_empty() {
+            continue;
+        }
+        let share = random.range(1, 256) as f64 / 256.0;
+        let rule = Allowance::Share(share);
+        let d = random.range(0, 20);
+        let answer = questions::may_be_late(row.row(), z, d, rule);
+        assert_eq!(
+            answer,
+            may_be_late(&row, z, d, rule),
+            "{row:?} {z} {d} {share}"
+        );
+        asked += 1;
+        let extent = instants[instants.len() - 1] - instants[0] + 1;
+        else_allowed += u64::from(answer == Ok(false) && d as f64 <= share * extent as f64);
+    }
+    println!("{asked} asked, {else_allowed} would be allowed with the closed days");
+    assert!(else_allowed >= 200, "{else_allowed}");
 }

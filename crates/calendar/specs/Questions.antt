@@ -5,14 +5,14 @@ use mathlib.Core.Bool.{Bool, cond}
 use mathlib.Core.List.{List}
 use Prim.Native.Nat.{ℕ}
 use lib.Dec.{leb}
-use lib.IntN.{ℤ, pos, _+ℤ_, _-ℤ_}
+use lib.IntN.{ℤ}
 use lib.Signed.{leZ}
 use lib.ListN.{length}
 use Rattle.integers.specs.Parts.{up}
 use Rattle.calendar.specs.Meaning.{Row, meant}
 use Rattle.calendar.specs.Reply.{Reply, require}
 use Rattle.calendar.specs.Reply.Reply.{answer}
-use Rattle.calendar.specs.Lists.{any, all, keep, first, last, is}
+use Rattle.calendar.specs.Lists.{any, all, keep, first, is}
 use Rattle.calendar.specs.Granules.{has, granule, inside, within}
 use Rattle.calendar.specs.Limits.{inRange}
 use Rattle.calendar.specs.Sound.{labelsOf, sound}
@@ -72,7 +72,7 @@ unfoldable pub place : Row → ℤ → ℤ → ℕ
 unfolding granule
 place r j t = length (keep (λ u. leZ u t) (granule r j))
 
--- "The slot's length is last instant − first instant + 1."
+-- "The length is the number of the slot's own instants." (document 02, Req 04)
 unfoldable pub granuleLength : Row → ℤ → ℕ
 unfolding granule
-granuleLength r z = up (last (granule r z) -ℤ first (granule r z) +ℤ pos 1)
+granuleLength r z = length (granule r z)

@@ -93,7 +93,7 @@ module _ (f : ℤ → Bool) where
       next : (t : ℤ) → count (from (t +ℤ pos 1) n) ≡ count (from t n)
       next t = omega (arith, count-step t n, ap toNat (repeats t))
 
-member-length : {u : ℤ} (l : List ℤ) → List·Memᴰ u l → 1 ≤ length l
+pub member-length : {u : ℤ} (l : List ℤ) → List·Memᴰ u l → 1 ≤ length l
 member-length [] m = absurd (List·Memᴰ·not-nil m)
 member-length (x ∷ l) m = omega arith
 

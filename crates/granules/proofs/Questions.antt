@@ -6,11 +6,10 @@ use mathlib.Core.Bool.{Bool, true, false, cond}
 use mathlib.Core.List.{List, [], _∷_, List·Memᴰ}
 use Prim.Native.Nat.{ℕ, suc, _≤_, _<_}
 use native.Mathlib.Omega.{arith}
-use lib.IntN.{ℤ, pos, _+ℤ_, _-ℤ_}
-use lib.Signed.{_≤ℤ_, leZ}
+use lib.IntN.{ℤ, pos, _+ℤ_}
+use lib.Signed.{_≤ℤ_, _<ℤ_, leZ}
 use lib.ListN.{length, getD}
-use Rattle.integers.proofs.Linear.{ints, _∴_}
-use Rattle.integers.proofs.Order.{pos-up}
+use Rattle.integers.proofs.Linear.{ints}
 use Rattle.calendar.specs.Meaning.{Row, meant, Has, Inside, labelOf, empty, raise}
 use Rattle.calendar.specs.Algebra.{Rising, Lists}
 use Rattle.calendar.specs.Lists.{any, keep, from, first, last, is, isSome}
@@ -18,12 +17,12 @@ use Rattle.calendar.specs.Granules.{granule, inside, within}
 use Rattle.calendar.specs.Questions.{holder, madeUp, labelledInstants, place, granuleLength}
 use Rattle.granules.specs.Valid.{Valid}
 use Rattle.granules.proofs.Tests.{some-inj, none≢some, none-or-some, is-iff, leZ-iff}
-use Rattle.granules.proofs.Lists.{mem-keep, all-iff, any-iff, rising-keep, lists-unique, first-least, last-greatest}
+use Rattle.granules.proofs.Lists.{mem-from, mem-keep, all-iff, any-iff, length-from, rising-from, rising-keep, lists-unique, first-least, last-greatest}
 use Rattle.granules.proofs.Calendars.{granule-near}
 use Rattle.granules.proofs.Rows.{meant-repeats, meant-cell}
 use Rattle.granules.proofs.Granule.{granule-lists}
 use Rattle.granules.proofs.Inside.{inside-iff, within-lists}
-use Rattle.granules.proofs.Count.{count, count-window}
+use Rattle.granules.proofs.Count.{count, count-at-most, count-all, count-window, member-length}
 
 -- ---- the first and the last instant of a granule
 
@@ -148,29 +147,43 @@ place-lists r v j t l x = ap length (lists-unique l (keep f (granule r j)) x kep
 
 -- ---- the length of a granule
 
--- "The slot's length is last instant − first instant + 1."
-pub length-iff : (r : Row) → Valid r → (z : ℤ) → Has (meant r) z
-    → (f : ℤ) × (l : ℤ) × (meant r f ≡ some z) × (meant r l ≡ some z)
-    × ((u : ℤ) → meant r u ≡ some z → (f ≤ℤ u) × (u ≤ℤ l))
-    × (pos (granuleLength r z) ≡ l -ℤ f +ℤ pos 1)
+-- over the meaning: however the instants of the granule are listed, there are so many
+pub length-lists : (r : Row) → Valid r → (z : ℤ) (l : List ℤ) → Lists (λ u. meant r u ≡ some z) l → length l ≡ granuleLength r z
 unfolding granuleLength
-length-iff r v z h = (
-  first (granule r z),
-  last (granule r z),
-  first-labelled r v z h,
-  last-labelled r v z h,
-  λ u e. (first-at-most r v z u e, last-at-least r v z u e),
-  pos-up {z = last (granule r z) -ℤ first (granule r z) +ℤ pos 1} (first-at-most r v z (last (granule r z)) (last-labelled r v z h) ∴ simp ints (omega arith)),
-)
+length-lists r v z l x = ap length (lists-unique l (granule r z) x (granule-lists r v z))
+
+-- "the length in the lateness rule is the place of the slot's last instant" (document 02, Req 08), wherever that lies
+pub place-last : (r : Row) → Valid r → (z : ℤ) → place r z (last (granule r z)) ≡ granuleLength r z
+unfolding place granuleLength
+place-last r v z =
+    count-all (λ u. leZ u (last (granule r z))) (granule r z) .1
+    (λ u m. leZ-iff u (last (granule r z)) .1 (last-at-least r v z u (granule-lists r v z .member u .1 m)))
 
 pub length-positive : (r : Row) → Valid r → (z : ℤ) → Has (meant r) z → 1 ≤ granuleLength r z
-length-positive r v z h =
-    let x = length-iff r v z h in
-    let l = x .4 (x .1) (x .3) .0 in
-    omega (arith, simp ints at (x .5), simp ints at l)
+unfolding granuleLength
+length-positive r v z h = member-length (granule r z) (granule-lists r v z .member (h .0) .0 (h .1))
 
+-- a granule has no more instants than a period: they are among the P instants from its first on
 pub length-at-most : (r : Row) → Valid r → (z : ℤ) → Has (meant r) z → granuleLength r z ≤ r .period
-length-at-most r v z h =
-    let x = length-iff r v z h in
-    let n = granule-near (meant r) (r .period) (r .distance) (meant-repeats r (v .positive .0)) (v .positive .1) (v .ordered) (x .0) (x .1) z (x .2) (x .3) in
-    omega (arith, simp ints at (x .5), simp ints at n)
+length-at-most r v z h = omega (arith, length-lists r v z (keep f w) window, count-at-most f w, length-from start (r .period))
+  where
+    start : ℤ
+    start = first (granule r z)
+
+    w : List ℤ
+    w = from start (r .period)
+
+    f : ℤ → Bool
+    f u = is z (meant r u)
+
+    near : (u : ℤ) → meant r u ≡ some z → u <ℤ (start +ℤ pos (r .period))
+    near u e = granule-near (meant r) (r .period) (r .distance) (meant-repeats r (v .positive .0)) (v .positive .1) (v .ordered) start u z (first-labelled r v z h) e
+
+    window : Lists (λ u. meant r u ≡ some z) (keep f w)
+    window = record {
+      rising = rising-keep f w (rising-from start (r .period));
+      member = λ u. (
+        λ e. mem-keep f u w .1 (mem-from u start (r .period) .1 (first-at-most r v z u e, near u e), is-iff z (meant r u) .1 e),
+        λ m. is-iff z (meant r u) .0 (mem-keep f u w .0 m .1),
+      );
+    }

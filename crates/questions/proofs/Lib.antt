@@ -1,11 +1,13 @@
 -- The laws that the questions rest on.
---     Lengths      the length of a granule, and numbers that are cast
+--     Casts        numbers that are cast
 --     Cleared      a list that is made zero
 --     Checks       the reply of `down`, check by check
 --     Lateness     lateness: when each reply is given
 --     Shortest     the least period: when each reply is given
-pub mod Lengths
+--     Examples     lateness on a granule with a gap
+pub mod Casts
 pub mod Cleared
 pub mod Checks
 pub mod Lateness
 pub mod Shortest
+pub mod Examples

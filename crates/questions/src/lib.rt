@@ -5,6 +5,7 @@
 ghost use mathlib.Core.Path.{_≡_};
 ghost use mathlib.Core.Bool.{true};
 ghost use mathlib.Core.Option.{some};
+ghost use Prim.Native.Nat.{_^_};
 ghost use lib.IntN.{ℤ, pos};
 ghost use Rattle.integers.specs.Parts.{up};
 ghost use Rattle.calendar.specs.Meaning.{meant};
@@ -143,15 +144,15 @@ fn is_lateness(d: i64) -> bool
     0 <= d && d <= LATE_LIMIT
 }
 
-// The length of the slot of t: last instant - first instant + 1.
+// The length of the slot of t, the number of its own instants: the place of its last instant.
 fn granule_length(cells: &[i32], period: i64, distance: i64, t: i64) -> u64
     requires { ⌜ Sound period distance (now cells) ⌝ }
     requires { ⌜ Labelled (given period distance (now cells)) t ⌝ }
+    requires { ⌜ Within (2 ^ 58) t ⌝ }
     ensures { λ r. ⌜ ((j : ℤ) → meant (given period distance (now (cells .entry))) t ≡ some j → r ≡ Q.granuleLength (given period distance (now (cells .entry))) j) ⌝ }
 {
-    let first = granule_ends::first_instant(cells, period, distance, t);
     let last = granule_ends::last_instant(cells, period, distance, t);
-    (last - first + 1) as u64
+    granule_ends::place(cells, period, distance, last)
 }
 
 // Whether a delivery may be d instants late on z, of a sound row and with numbers within the limits: z may still be
@@ -176,7 +177,7 @@ fn judged(z: i64, d: i64, allowance: Allowance, cells: &[i32], period: i64, dist
 }
 
 // Whether a delivery may be d instants late on the slot z. Refuses 13, 14, 18, 15. Costs one pass over the row, for
-// check 13, at most two more, to find the slot, and a walk over the slot.
+// check 13, at most two more, to find the slot, and two walks over the slot.
 pub fn may_be_late(
     z: i64,
     d: i64,

@@ -46,7 +46,7 @@ impl<'a> Reader<'a> {
 
     // Whether a delivery may be d instants late on the slot z. Refuses 13, 14 for z or d outside the limits, 18 for a
     // fixed allowance that is negative, infinite or no number and for a share that is not 1/256 to 1 in steps of
-    // 1/256, 15 where z is no label. Costs three passes over the row at most, and a walk over the slot.
+    // 1/256, 15 where z is no label. Costs three passes over the row at most, and two walks over the slot.
     pub fn may_be_late(self, z: i64, d: i64, allowance: Allowance) -> Late
         ensures { λ r. ⌜ lateReply r ≡ mayBeLate (given (self .entry .period) (self .entry .distance) (now (self .entry .cells))) z d allowance ⌝ }
     {

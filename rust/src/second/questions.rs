@@ -150,7 +150,11 @@ pub fn may_be_late(row: Row, z: i64, d: i64, rule: Allowance) -> Result<bool, u3
         return Err(18);
     }
     let (first, last) = calendar.slot(z).ok_or(15u32)?;
-    let length = last - first + 1;
+    // Closed days inside the slot are no part of its length.
+    let span = calendar
+        .labels_from(first)
+        .take((last - first + 1) as usize);
+    let length = span.flatten().count() as i64;
     Ok(match rule {
         Allowance::Fixed(instants) => d as f64 <= instants,
         Allowance::Share(share) => 256 * d <= (share * 256.0) as i64 * length,
@@ -516,11 +520,10 @@ mod tests {
         assert_eq!(may_be_late(B, 1, 2, Fixed(1.999)), Ok(false));
         assert_eq!(may_be_late(B, 1, 0, Fixed(-0.0)), Ok(true));
         assert_eq!(may_be_late(B, 1, 1_048_576, Fixed(f64::MAX)), Ok(true));
-        // A closed day inside counts.
-        assert_eq!(
-            may_be_late(row(&[1, 1, NONE, 1, 1], 5, 1), 1, 5, Share(1.0)),
-            Ok(true)
-        );
+        // A closed day inside is no part of the slot.
+        let gap = row(&[1, 1, NONE, 1, 1], 5, 1);
+        assert_eq!(may_be_late(gap, 1, 4, Share(1.0)), Ok(true));
+        assert_eq!(may_be_late(gap, 1, 5, Share(1.0)), Ok(false));
         for bad in [-1.0, f64::NAN, f64::INFINITY, f64::NEG_INFINITY] {
             assert_eq!(may_be_late(B, 6, 0, Fixed(bad)), Err(18));
             assert_eq!(may_be_late(B, 6, 0, Share(bad)), Err(18));

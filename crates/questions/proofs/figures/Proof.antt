@@ -22,7 +22,7 @@ use Rattle.floats.specs.declared.Figures.{Figures}
 use Rattle.granules.proofs.Tests.{not-iff}
 use Rattle.granules.proofs.Count.{count-at-most, granules-positive, granules-at-most}
 use Rattle.cursors.proofs.Numbers.{valid, Numbers, numbers}
-use Rattle.questions.proofs.Lengths.{cast}
+use Rattle.questions.proofs.Casts.{cast}
 use Rattle.questions.proofs.figures.Statement.{statement}
 use Rattle.questions.proofs.figures.Tie as tie
 

@@ -1,115 +1,88 @@
--- `questions::granule_length` meets its contract: its numbers are the last and the first instant, and a granule is not longer than a period.
+-- `questions::granule_length` meets its contract: the length of a granule is the place of its last instant, which is less than a period after t.
+-- Assumes nothing.
 use borrow.Author.Needs.{needs, sfits-of}
-use mathlib.Core.Path.{_≡_, sym, _∙_, ap, ap₂, subst}
-use Prim.Native.Nat.{ℕ, _≤_}
+use mathlib.Core.Path.{_≡_, sym, _∙_, ap}
+use mathlib.Core.Option.{some}
+use Prim.Native.Nat.{_^_}
 use native.Mathlib.Omega.{arith}
-use lib.IntN.{ℤ, pos, natAbs, _+ℤ_, _-ℤ_}
-use mir.Facts.{toZ-ofZ}
+use lib.IntN.{ℤ}
 use mir.Syntax.{w64}
-use mir.Val.{SFits, ofZ, toZ}
+use mir.Val.{SFits}
 use Rattle.integers.proofs.Linear.{ints, _∴_}
 use Rattle.integers.proofs.Machine.{plain}
-use Rattle.calendar.specs.Limits.{poolLimit}
-use Rattle.calendar.specs.Meaning.{Row, meant, Has}
-use Rattle.calendar.specs.Lists.{first, last}
+use Rattle.calendar.specs.Meaning.{Row, meant}
+use Rattle.calendar.specs.Lists.{last}
 use Rattle.calendar.specs.Granules.{granule}
-use Rattle.calendar.specs.Questions.{given, granuleLength}
+use Rattle.calendar.specs.Questions.{given, place, granuleLength}
 use Rattle.granules.specs.Valid.{Valid}
 use Rattle.granules.proofs.Tests.{some-inj}
-use Rattle.granules.proofs.Questions.{length-positive, length-at-most}
-use Rattle.cursors.proofs.Numbers.{valid, numbers, read-as}
-use Rattle.questions.proofs.Lengths.{length-is, cast}
+use Rattle.granules.proofs.Calendars.{granule-near}
+use Rattle.granules.proofs.Rows.{meant-repeats}
+use Rattle.granules.proofs.Questions.{last-labelled, last-at-least, place-last}
+use Rattle.cursors.specs.Found.{Within}
+use Rattle.cursors.proofs.Numbers.{valid, numbers}
 use Rattle.questions.proofs.granule_length.Statement.{statement}
 use Rattle.questions.proofs.granule_length.Tie as tie
 
 abbrev row : tie.Start → Row
 row s = given (s .args .period) (s .args .distance) (s .args .cells .now)
 
--- the label of t, and the length of its granule
+-- the label of t
 abbrev own : tie.Start → ℤ
-own s = s .pre .1 .0 .0
+own s = s .pre .1 .0 .0 .0
 
-abbrev length : tie.Start → ℕ
-length s = granuleLength (row s) (own s)
+is-own : (s : tie.Start) → meant (row s) (s .args .t) ≡ some (own s)
+is-own s = s .pre .1 .0 .0 .1
 
 rules : (s : tie.Start) → Valid (row s)
 rules s = valid (s .args .period) (s .args .distance) (s .args .cells .now) (s .pre .0)
 
-held : (s : tie.Start) → Has (meant (row s)) (own s)
-held s = (s .args .t, s .pre .1 .0 .1)
-
-bounds : (s : tie.Start) → (1 ≤ length s) × (length s ≤ poolLimit)
-bounds s =
-    let n = numbers (s .args .period) (s .args .distance) (s .args .cells .now) (s .pre .0) in
-    (length-positive (row s) (rules s) (own s) (held s), omega (arith, n .high, length-at-most (row s) (rules s) (own s) (held s)))
-
-first-instant-requires : tie.Need-first-instant-requires
-first-instant-requires c κs = search needs
-
 last-instant-requires : tie.Need-last-instant-requires
 last-instant-requires c κs = search needs
 
-first-is : (c : tie.After-first-instant) → toZ w64 (ofZ w64 (c .first-instant .result)) ≡ first (granule (row (c .before)) (own (c .before)))
-first-is c =
+last-is : (c : tie.After-last-instant) → c .last-instant .result ≡ last (granule (row (c .before)) (own (c .before)))
+last-is c =
     let s = c .before in
     let p = s .fits .period in
     let n = s .fits .distance in
     let t = s .fits .t in
-    toZ-ofZ (sfits-of (c .first-instant .ok)) ∙ (simp plain at (c .first-instant .ensures)) (own s) (s .pre .1 .0 .1)
+    (simp plain at (c .last-instant .ensures)) (own s) (is-own s)
 
-last-is : (c : tie.After-last-instant) → toZ w64 (ofZ w64 (c .last-instant .result)) ≡ last (granule (row (c .before .before)) (own (c .before .before)))
-last-is c =
-    let s = c .before .before in
+labelled : (c : tie.After-last-instant) → meant (row (c .before)) (c .last-instant .result) ≡ some (own (c .before))
+labelled c = let s = c .before in ap (meant (row s)) (last-is c) ∙ last-labelled (row s) (rules s) (own s) (s .args .t, is-own s)
+
+near : (c : tie.After-last-instant) → Within (2 ^ 59) (c .last-instant .result)
+near c =
+    let s = c .before in
+    let r = row s in
+    let v = rules s in
+    let n = numbers (s .args .period) (s .args .distance) (s .args .cells .now) (s .pre .0) in
+    last-at-least r v (own s) (s .args .t) (is-own s)
+    ∴ granule-near (meant r) (r .period) (r .distance) (meant-repeats r (v .positive .0)) (v .positive .1) (v .ordered) (s .args .t) (c .last-instant .result) (own s) (is-own s) (labelled c)
+    ∴ last-is c
+    ∴ s .pre .1 .1
+    ∴ n .high
+    ∴ simp ints (omega arith)
+
+place-requires : tie.Need-place-requires
+place-requires c κs =
+    let s = c .before in
     let p = s .fits .period in
     let n = s .fits .distance in
-    let t = s .fits .t in
-    toZ-ofZ (sfits-of (c .last-instant .ok)) ∙ (simp plain at (c .last-instant .ensures)) (own s) (s .pre .1 .0 .1)
-
--- last − first, and one more
-abbrev difference : tie.After-last-instant → ℤ
-difference c = toZ w64 (ofZ w64 (c .last-instant .result)) -ℤ toZ w64 (ofZ w64 (c .before .first-instant .result))
-
-difference-is : (c : tie.After-last-instant) → difference c ≡ pos (length (c .before .before)) -ℤ pos 1
-difference-is c =
-    let s = c .before .before in
-    ap₂ (λ (x y : ℤ). x -ℤ y) (last-is c) (first-is (c .before)) ∙ (length-is (row s) (rules s) (own s) (held s) ∴ simp ints (omega arith))
-
-less-fits : (s : tie.Start) → SFits w64 (pos (length s) -ℤ pos 1)
-less-fits s = bounds s ∴ simp ints (omega arith)
-
-sub-result : tie.Need-sub-result
-sub-result c = subst (SFits w64) (sym (difference-is c)) (less-fits (c .before .before))
-
-one-more : (n : ℕ) → (pos n -ℤ pos 1 +ℤ pos 1) ≡ pos n
-one-more = simp ints (omega arith)
-
-sum-is : (c : tie.After-last-instant) → (toZ w64 (ofZ w64 (difference c)) +ℤ pos 1) ≡ pos (length (c .before .before))
-sum-is c =
-    let s = c .before .before in
-    ap (λ (x : ℤ). x +ℤ pos 1) (read-as {w = w64} (difference-is c) (less-fits s)) ∙ one-more (length s)
-
-length-fits : (s : tie.Start) → SFits w64 (pos (length s))
-length-fits s = bounds s ∴ simp ints (omega arith)
-
-add-result : tie.Need-add-result
-add-result c = subst (SFits w64) (sym (sum-is c)) (length-fits (c .before .before))
-
-read : (c : tie.After-last-instant) → toZ w64 (ofZ w64 (toZ w64 (ofZ w64 (difference c)) +ℤ pos 1)) ≡ pos (length (c .before .before))
-read c = read-as {w = w64} (sum-is c) (length-fits (c .before .before))
-
-cast-result : tie.Need-cast-result
-cast-result c = let s = c .before .before in cast (length s) (read c) (omega (arith, bounds s .1))
+    let l : SFits w64 (c .last-instant .result) = sfits-of (c .last-instant .ok) in
+    simp plain (s .pre .0, ((own s, labelled c), near c))
 
 returns : tie.Need-returns
-returns c j e = let s = c .before .before in ap natAbs (read c) ∙ ap (granuleLength (row s)) (some-inj (sym (s .pre .1 .0 .1) ∙ e))
+returns c j e =
+    let b = c .before in
+    let s = b .before in
+    let p = s .fits .period in
+    let n = s .fits .distance in
+    let l : SFits w64 (b .last-instant .result) = sfits-of (b .last-instant .ok) in
+    (simp plain at (c .place .ensures)) (own s) (labelled b)
+    ∙ ap (place (row s) (own s)) (last-is b)
+    ∙ place-last (row s) (rules s) (own s)
+    ∙ ap (granuleLength (row s)) (some-inj (sym (is-own s) ∙ e))
 
 pub granule-length-spec : {M : Type 1} → statement M
-granule-length-spec =
-    tie.close
-    (tie.spec
-    first-instant-requires
-    last-instant-requires
-    sub-result
-    add-result
-    cast-result
-    returns)
+granule-length-spec = tie.close (tie.spec last-instant-requires place-requires returns)

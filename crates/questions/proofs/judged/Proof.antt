@@ -25,7 +25,7 @@ use Rattle.granules.proofs.Questions.{length-at-most}
 use Rattle.granules.proofs.Replies.{passed, failed}
 use Rattle.cursors.specs.Found.{found, Within}
 use Rattle.cursors.proofs.Numbers.{valid, numbers}
-use Rattle.questions.proofs.Lengths.{lateness, cast}
+use Rattle.questions.proofs.Casts.{lateness, cast}
 use Rattle.questions.proofs.judged.Statement.{statement}
 use Rattle.questions.proofs.judged.Tie as tie
 
@@ -73,7 +73,7 @@ is-label : (c : tie.After-known-told) → has (row (begun c)) (begun c .args .z)
 unfolding has
 is-label c = ap isSome (is-found c)
 
-near : (c : tie.After-known-told) → Within (2 ^ 59) (instant c)
+near : (c : tie.After-known-told) → Within (2 ^ 59) (instant c) × Within (2 ^ 58) (instant c)
 near c = c .before .before .before .instant-of .ensures .1 (instant c) (ap found (c .before .at .given .1)) ∴ simp ints (omega arith)
 
 granule-length-requires : tie.Need-granule-length-requires
@@ -82,7 +82,7 @@ granule-length-requires c κs =
     let p = s .fits .period in
     let n = s .fits .distance in
     let t : SFits w64 (instant c) = sfits-of (c .known-told .given .0 .1) in
-    simp plain (s .pre .0, ((s .args .z, labelled c), near c))
+    simp plain (s .pre .0, (((s .args .z, labelled c), near c .0), near c .1))
 
 late : (s : tie.Start) → (s .args .d ≡ pos (up (s .args .d))) × (up (s .args .d) ≤ lateLimit)
 late s = lateness (s .args .d) (s .pre .1 .1 .0)

@@ -1,31 +1,19 @@
--- The length of a granule, and numbers that are cast to u64.
+-- Numbers that are cast to u64, and the lateness among them.
 use mathlib.Core.Path.{_≡_, sym, subst}
 use mathlib.Core.Logic.{_↔_, Iff·rfl}
 use mathlib.Core.Bool.{true}
 use Prim.Native.Nat.{ℕ, _≤_, _<_, _^_}
 use native.Mathlib.Omega.{arith}
 use lib.Dec.{T}
-use lib.IntN.{ℤ, pos, natAbs, _+ℤ_, _-ℤ_}
+use lib.IntN.{ℤ, pos, natAbs}
 use lib.Signed.{_≤ℤ_, nonNeg}
 use mir.Syntax.{w64}
 use mir.Val.{Fits}
 use Rattle.integers.specs.Parts.{up}
-use Rattle.integers.proofs.Linear.{ints, _∴_}
+use Rattle.integers.proofs.Linear.{ints}
 use Rattle.integers.proofs.Order.{pos-up}
-use Rattle.calendar.specs.Meaning.{Row, meant, Has}
-use Rattle.calendar.specs.Lists.{first, last}
-use Rattle.calendar.specs.Granules.{granule}
 use Rattle.calendar.specs.Limits.{between, lateLimit}
-use Rattle.calendar.specs.Questions.{granuleLength}
-use Rattle.granules.specs.Valid.{Valid}
 use Rattle.granules.proofs.Tests.{and-iff, leZ-iff}
-use Rattle.granules.proofs.Questions.{first-at-most, last-labelled}
-
--- last instant − first instant + 1
-pub length-is : (r : Row) → Valid r → (z : ℤ) → Has (meant r) z → (last (granule r z) -ℤ first (granule r z) +ℤ pos 1) ≡ pos (granuleLength r z)
-unfolding granuleLength
-length-is r v z h =
-    sym (pos-up {z = last (granule r z) -ℤ first (granule r z) +ℤ pos 1} (first-at-most r v z (last (granule r z)) (last-labelled r v z h) ∴ simp ints (omega arith)))
 
 -- a natural number as the machine casts it
 pub cast : {x : ℤ} (n : ℕ) → x ≡ pos n → n < 2 ^ 64 → T (nonNeg x) × Fits w64 (natAbs x)
