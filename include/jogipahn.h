@@ -5,7 +5,7 @@
  * label are a slot. The instant t has the label in cell (t mod period) plus distance * floor(t / period). A question is handed a row as its cells, with their number, its period and its
  * distance, and answers with one number. One below zero is a refusal, its number with the sign changed:
  *
- *     -13   a row is not sound: its length is not the period, not 1 <= distance <= period <= 1,048,576, a label is outside the
+ *     -13   a row is not sound: its length is not the period, not 1 <= distance <= period <= 4,194,304, a label is outside the
  *           limits, no instant has a label, or labels fall
  *     -14   an argument is outside the limits: a label or an instant outside -1,000,000,000 to 1,000,000,000, or a lateness
  *           outside 0 to 1,048,576
@@ -32,7 +32,7 @@ extern "C" {
 /* Converts a table of six numbers an entry: kind, first, second, x, y, z. 0, or 100 times the number of a refusal plus its entry (0 for
  * 1 to 3). Answered, the pool holds the least row of each entry, one behind the other, and INT32_MIN behind the last; headings holds
  * start, period and distance of each entry, and 0 behind the last. After a refusal all of the pool is INT32_MIN and all of headings 0.
- * Refusals: 1 the table's length is not 6 times 1 to 32; 2 fewer than three heading numbers for each entry; 3 a pool above 1,048,576
+ * Refusals: 1 the table's length is not 6 times 1 to 64; 2 fewer than three heading numbers for each entry; 3 a pool above 4,194,304
  * cells; then entry by entry 4 an unknown kind; 5 an operand that is no earlier entry; 6 a number outside its limits; 7 an operand that
  * must be full is not; 8 span or working period above the room; 9 operands not aligned; 10 a slot emptied by alter; 12 no label;
  * 11 a label outside -1,000,000,000 to 1,000,000,000. */

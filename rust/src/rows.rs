@@ -179,7 +179,7 @@ fn unrolled(row: &OwnRow, times: i64) -> OwnRow {
 /// Several rows that pass rule 13, most of them related by a table.
 pub fn whole_rows(random: &mut Random, long: bool) -> Vec<OwnRow> {
     let (cells, longest) = if long {
-        (CELL_LIMIT, CELL_LIMIT)
+        random.choose(&[(1_048_576, 1_048_576), (CELL_LIMIT, CELL_LIMIT)])
     } else {
         (600, 60)
     };

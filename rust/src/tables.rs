@@ -21,10 +21,12 @@ pub struct Case {
     pub pool: usize,
 }
 
-/// A random case. One of a hundred has rows of up to a million cells.
+/// A random case. One of a hundred has rows of up to a million cells, some of
+/// these a pool of four million.
 pub fn case(random: &mut Random) -> Case {
     if random.below(100) == 0 {
-        case_within(random, CELL_LIMIT, true)
+        let cells = random.choose(&[1_048_576, 1_048_576, 1_048_576, CELL_LIMIT]);
+        case_within(random, cells, true)
     } else {
         let cells = random.choose(&[40, 400, 400, 4000, 4000]);
         case_within(random, cells, false)

@@ -14,6 +14,8 @@ fn tables_are_converted_alike() {
     let mut refused = [0; 13];
     let mut tables_answered = 0;
     let mut long_tables = 0;
+    let mut wide_tables = 0;
+    let mut longest_pools = 0;
     for seed in 0..TABLES {
         let mut random = Random::new(seed);
         let case = case(&mut random);
@@ -38,6 +40,8 @@ fn tables_are_converted_alike() {
         match expected {
             Ok(()) => {
                 tables_answered += 1;
+                wide_tables += u64::from(case.table.len() > 6 * 32);
+                longest_pools += u64::from(case.pool > 1_048_576);
                 long_tables += u64::from(
                     headings
                         .chunks_exact(3)
@@ -51,8 +55,10 @@ fn tables_are_converted_alike() {
         }
     }
     println!("{TABLES} tables, {tables_answered} answered, {long_tables} with rows of 100,000 cells or more");
+    println!("{wide_tables} answered with more than 32 entries, {longest_pools} in more than 1,048,576 cells");
     println!("entries answered by kind from 0: {answered:?}");
     println!("tables refused by number from 1: {:?}", &refused[1..]);
+    assert!(wide_tables >= 100 && longest_pools >= 20);
     assert!(answered.iter().all(|&count| count >= 500));
     assert!(refused[1..].iter().all(|&count| count >= 500));
 }

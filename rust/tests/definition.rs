@@ -352,13 +352,13 @@ type Lists = (Vec<u32>, Vec<i32>);
 /// The lists that conversion should leave, or the refusal if it can be told.
 fn conversion(case: &Case) -> Result<Lists, Option<(u32, u32)>> {
     let entries = case.table.len() / 6;
-    if !case.table.len().is_multiple_of(6) || entries < 1 || entries > 32 {
+    if !case.table.len().is_multiple_of(6) || entries < 1 || entries > 64 {
         return Err(Some((1, 0)));
     }
     if case.headings / 3 < entries {
         return Err(Some((2, 0)));
     }
-    if case.pool > 1_048_576 {
+    if case.pool > 4_194_304 {
         return Err(Some((3, 0)));
     }
     let mut calendars = Vec::new();

@@ -24,7 +24,7 @@ fn test_row(row: &OwnRow) -> Result<(), u32> {
     let (period, distance) = (row.period, row.distance);
     refuse_if(row.cells.len() as i64 != period, 13)?;
     refuse_if(
-        !(1 <= distance && distance <= period && period <= 1_048_576),
+        !(1 <= distance && distance <= period && period <= 4_194_304),
         13,
     )?;
     let labels: Vec<i64> = row

@@ -1,16 +1,16 @@
--- The limits that document 01 sets, each with the sentence it stands in. What follows from them in proofs is bounded for rows of 4,194,304 cells.
+-- The limits that document 01 sets, each with the sentence it stands in; two are raised by document 02, Req 06.
 use mathlib.Core.Bool.{Bool, _&&_}
 use Prim.Native.Nat.{ℕ}
 use lib.IntN.{ℤ, pos, negℤ}
 use lib.Signed.{leZ}
 
--- "pool above 1,048,576 cells", "P ≤ 1,048,576": the longest pool and the longest period, in cells
+-- "Raise .. the pool and P to 4,194,304 cells": the longest pool and the longest period
 abbrev pub poolLimit : ℕ
-poolLimit = 1048576
+poolLimit = 4194304
 
--- "the table's length isn't 6 × (1 to 32)"
+-- "Raise the table to 64 entries": "the table's length isn't 6 × (1 to ..)"
 abbrev pub entryLimit : ℕ
-entryLimit = 32
+entryLimit = 64
 
 -- "one record for each entry: start, period, distance .. Plain numbers, three a heading"
 abbrev pub headingLength : ℕ

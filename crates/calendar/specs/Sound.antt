@@ -22,7 +22,7 @@ neverFalls [] = true
 neverFalls (j ∷ []) = true
 neverFalls (j ∷ k ∷ l) = leZ j k && neverFalls (k ∷ l)
 
--- check 13 passes: not "length not P, not 1 ≤ N ≤ P ≤ 1,048,576, a label outside ±1,000,000,000, all '.', or labels that fall
+-- check 13 passes: not "length not P, not 1 ≤ N ≤ P ≤ 4,194,304, a label outside ±1,000,000,000, all '.', or labels that fall
 -- (the next turn of the row included)"
 unfoldable pub sound : Row → Bool
 sound r =

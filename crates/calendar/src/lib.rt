@@ -6,10 +6,10 @@ ghost use Rattle.calendar.specs.Limits.{inRange};
 ghost use Rattle.calendar.specs.Refusals.{numberOf, rowOfCalendar};
 
 // The most entries that a table has.
-pub const ENTRY_LIMIT: usize = 32;
+pub const ENTRY_LIMIT: usize = 64;
 
 // The most cells that a pool or a row has.
-pub const POOL_LIMIT: usize = 1048576;
+pub const POOL_LIMIT: usize = 4194304;
 
 pub const LONGEST_PERIOD: i64 = POOL_LIMIT as i64;
 

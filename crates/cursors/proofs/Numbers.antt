@@ -21,7 +21,7 @@ use Rattle.granules.specs.Valid.{Valid}
 use Rattle.granules.proofs.Sound.{sound-valid, sound-limits}
 use Rattle.cursors.specs.Found.{Sound}
 
--- the period and the distance of a sound row are naturals, 1 ≤ N ≤ P ≤ 1,048,576, and P is the row's length
+-- the period and the distance of a sound row are naturals, 1 ≤ N ≤ P ≤ poolLimit, and P is the row's length
 pub record Numbers (period distance : ℤ) (cells : List ℤ) : Type 0 where
   pub period-is : period ≡ pos (up period)
   pub distance-is : distance ≡ pos (up distance)

@@ -6,7 +6,7 @@ use lib.IntN.{pos}
 use lib.Dec.{leb, eqb}
 use lib.Ieee.{Float, nan, inf, fin, binary64, up, down, ofInt}
 
--- the greatest number of instants or granules that this crate takes: no row is longer (document 01's "pool above 1,048,576 cells", with room for more)
+-- the greatest number of instants or granules that this crate takes: no row is longer (document 02: "the pool and P to 4,194,304 cells")
 abbrev pub limit : ℕ
 limit = 4194304
 

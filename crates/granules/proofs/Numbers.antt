@@ -13,7 +13,7 @@ use Rattle.calendar.specs.Sound.{sound}
 use Rattle.calendar.specs.Questions.{given}
 use Rattle.granules.proofs.Sound.{sound-valid, sound-limits}
 
--- the period and the distance of a sound row are naturals, "1 ≤ N ≤ P ≤ 1,048,576", and P is the row's length
+-- the period and the distance of a sound row are naturals, "1 ≤ N ≤ P ≤ poolLimit", and P is the row's length
 pub record Numbers (period distance : ℤ) (cells : List ℤ) : Type 0 where
   pub period-is : period ≡ pos (up period)
   pub distance-is : distance ≡ pos (up distance)

@@ -47,9 +47,9 @@ pub use calendar::POOL_LIMIT;
 pub use calendar::Calendar;
 
 // Why something is refused, with document 01's number for each name (`number`):
-//     1  TableLength            the table's length is not 6 times 1 to 32
+//     1  TableLength            the table's length is not 6 times 1 to 64
 //     2  TooFewHeadings         fewer headings than entries
-//     3  PoolTooLong            a pool above 1,048,576 cells
+//     3  PoolTooLong            a pool above 4,194,304 cells
 //     4  UnknownKind            a kind that is not 0 to 12
 //     5  OperandNotEarlier      an operand that is no earlier entry
 //     6  NumberOutsideLimits    x, y or z outside the kind's limits
@@ -59,7 +59,7 @@ pub use calendar::Calendar;
 //     10 GranuleEmptied         alter leaves a slot with nothing
 //     11 LabelOutsideLimits     a label is outside ±1,000,000,000
 //     12 NothingLabelled        no instant would have a label
-//     13 RowNotSound            the cells are not as many as the period, not 1 <= distance <= period <= 1,048,576,
+//     13 RowNotSound            the cells are not as many as the period, not 1 <= distance <= period <= 4,194,304,
 //                               a label is outside the limits, no cell has a label, or labels fall
 //     14 ArgumentOutsideLimits  a label or an instant outside ±1,000,000,000, or a lateness outside 0 to 1,048,576
 //     15 NotALabel              a label that the row does not have

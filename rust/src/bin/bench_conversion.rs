@@ -127,23 +127,30 @@ fn measure(name: &str, mut case: Case) {
     case.report(name, &rounds, 0, 1);
 }
 
-/// Measures both sides at two sizes in turn, and says how they grow.
-fn measure_growth(name: &str, mut small: Case, mut large: Case) {
+/// Measures both sides at three sizes in turn, and says how they grow from one
+/// to the next.
+fn measure_growth(name: &str, mut cases: [Case; 3]) {
+    let [small, large, longest] = &mut cases;
     let rounds = take_turns(&mut [
         &mut || run_core(&small.table, &mut small.core),
         &mut || run_second(&small.table, &mut small.second),
         &mut || run_core(&large.table, &mut large.core),
         &mut || run_second(&large.table, &mut large.second),
+        &mut || run_core(&longest.table, &mut longest.core),
+        &mut || run_second(&longest.table, &mut longest.second),
     ]);
-    small.report(name, &rounds, 0, 1);
-    large.report(name, &rounds, 2, 3);
-    println!(
-        "{:<52} grows by the factor   cells {:.1}   core {:.1}   second {:.1}",
-        "",
-        large.cells() as f64 / small.cells() as f64,
-        rounds.ratio(2, 0),
-        rounds.ratio(3, 1)
-    );
+    for (size, case) in cases.iter().enumerate() {
+        case.report(name, &rounds, 2 * size, 2 * size + 1);
+        if size > 0 {
+            println!(
+                "{:<52} grows by the factor   cells {:.1}   core {:.1}   second {:.1}",
+                "",
+                case.cells() as f64 / cases[size - 1].cells() as f64,
+                rounds.ratio(2 * size, 2 * size - 2),
+                rounds.ratio(2 * size + 1, 2 * size - 1)
+            );
+        }
+    }
 }
 
 /// Months and years by grouping 31 days and altering, as in source 000.
@@ -174,8 +181,8 @@ fn civil(by_the_hour: bool, years: i32) -> Vec<Entry> {
 }
 
 /// A table for each kind. With the factors 1019 and 1021 the last working row
-/// has about a million cells; kinds marked * keep a long operand in the pool,
-/// so that theirs is about half as long.
+/// has about a million cells, with 2039 and 2053 about four; kinds marked * keep
+/// a long operand in the pool, so that theirs is about half as long.
 fn each_kind(
     p: i32,
     q: i32,
@@ -249,8 +256,10 @@ fn main() {
     println!("\nEach kind (* a long operand stands in the pool too, and rows are half as long)");
     let small = each_kind(359, 367, 181, 359, 18_700);
     let large = each_kind(1019, 1021, 509, 1013, 149_000);
-    for ((name, small), (_, large)) in small.iter().zip(&large) {
-        measure_growth(name, Case::fitting(name, small), Case::fitting(name, large));
+    let longest = each_kind(2039, 2053, 1021, 2039, 598_000);
+    for (((name, small), (_, large)), (_, longest)) in small.iter().zip(&large).zip(&longest) {
+        let tables = [small, large, longest];
+        measure_growth(name, tables.map(|table| Case::fitting(name, table)));
     }
 
     println!("\nWorst cases (the pool holds no more than two rows of 524,288 cells)");
@@ -261,7 +270,8 @@ fn main() {
     // Bottom's row has one cell; what grows with the pool is the clearing.
     println!("\nClearing a pool");
     let bottom = |cells| Case::new("bottom", &[BOTTOM], cells);
-    measure_growth("bottom in a long pool", bottom(1 << 17), bottom(1 << 20));
+    let sizes = [1 << 17, 1 << 20, 1 << 22];
+    measure_growth("bottom in a long pool", sizes.map(bottom));
 }
 
 /// What would take long if it weren't done in time linear in the row.

@@ -23,10 +23,10 @@ pub const EMPTY: i32 = i32::MIN;
 pub const LABEL_LIMIT: i32 = 1_000_000_000;
 
 /// The longest pool and the longest row.
-pub const CELL_LIMIT: usize = 1_048_576;
+pub const CELL_LIMIT: usize = 4_194_304;
 
 /// The most entries a table has.
-pub const ENTRY_LIMIT: usize = 32;
+pub const ENTRY_LIMIT: usize = 64;
 
 /// How many numbers make up an entry of a table.
 pub const ENTRY_NUMBERS: usize = 6;

@@ -1,4 +1,4 @@
--- `least_form::least_distance` meets its contract: all numbers are naturals of at most 1,048,576, and the quotient is that of the definition.
+-- `least_form::least_distance` meets its contract: all numbers are naturals of at most poolLimit, and the quotient is that of the definition.
 -- Assumes nothing.
 use mathlib.Core.Path.{_≡_, _∙_, ap}
 use mathlib.Core.List.{List}
@@ -23,7 +23,7 @@ use Rattle.least_form.specs.Row.{IsLeast}
 use Rattle.least_form.proofs.least_distance.Statement.{statement}
 use Rattle.least_form.proofs.least_distance.Tie as tie
 
--- ---- numbers from 1 to 1,048,576
+-- ---- numbers from 1 to poolLimit
 record Small (z : ℤ) : Type 0 where
   low : pos 1 ≤ℤ z
   high : z ≤ℤ pos poolLimit

@@ -309,15 +309,15 @@ fn the_three_first_checks() {
     let answer = |table: &[i32], headings: usize, cells: usize| {
         convert(table, &mut vec![5; headings], &mut vec![5; cells])
     };
-    assert_eq!(answer(&[], 0, 2_000_000), Err((1, 0)));
-    assert_eq!(answer(&[0; 5], 0, 2_000_000), Err((1, 0)));
-    assert_eq!(answer(&[0; 7], 0, 2_000_000), Err((1, 0)));
-    assert_eq!(answer(&[0; 6 * 33], 200, 100), Err((1, 0)));
-    assert_eq!(answer(&[0; 6 * 32], 96, 32), Ok(()));
-    assert_eq!(answer(&[0; 6 * 32], 95, 2_000_000), Err((2, 0)));
+    assert_eq!(answer(&[], 0, 5_000_000), Err((1, 0)));
+    assert_eq!(answer(&[0; 5], 0, 5_000_000), Err((1, 0)));
+    assert_eq!(answer(&[0; 7], 0, 5_000_000), Err((1, 0)));
+    assert_eq!(answer(&[0; 6 * 65], 400, 100), Err((1, 0)));
+    assert_eq!(answer(&[0; 6 * 64], 192, 64), Ok(()));
+    assert_eq!(answer(&[0; 6 * 64], 191, 5_000_000), Err((2, 0)));
     assert_eq!(answer(&[0; 6], 2, 1), Err((2, 0)));
-    assert_eq!(answer(&[0; 6], 3, 1_048_577), Err((3, 0)));
-    assert_eq!(answer(&[0; 6], 3, 1_048_576), Ok(()));
+    assert_eq!(answer(&[0; 6], 3, 4_194_305), Err((3, 0)));
+    assert_eq!(answer(&[0; 6], 3, 4_194_304), Ok(()));
     // No room at all, after 4 to 7.
     assert_eq!(answer(&[0; 6], 3, 0), Err((8, 0)));
     assert_eq!(answer(&[0, 0, 0, 0, 0, 1], 3, 0), Err((6, 0)));
