@@ -2,11 +2,14 @@
 
 ghost use mathlib.Core.Path.{_≡_};
 ghost use mathlib.Core.Bool.{true};
+ghost use Prim.Native.Nat.{_-_, _≤_};
+ghost use lib.IntN.{pos};
+ghost use lib.ListN.{length};
 ghost use Rattle.calendar.specs.Lists.{ifLabel};
 ghost use Rattle.calendar.specs.Compute.{cellOf};
 ghost use Rattle.calendar.specs.Limits.{inRange};
 ghost use Rattle.cursors.specs.Found.{found};
-ghost use Rattle.fill_stretches.specs.Stretch.{rowFrom, Room, Follows, Stretched, Led};
+ghost use Rattle.fill_stretches.specs.Stretch.{rowFrom, written, Room, Follows, InReach, Ends, Stretched, Led};
 use calendar::Calendar;
 use cursors::Cursor;
 use cursors::Found;
@@ -41,9 +44,62 @@ pub fn cell_of(label: Found) -> i32
     }
 }
 
-// Fills the cells of the instants that follow, as far as the row has no label above `high`, and not beyond `size` instants: `cell` where the row has a
-// label, empty where it has none. The row's cells stand in the pool from `start` up to `end`; the cell of the instant 0 is the one at `at`.
-pub fn fill_stretch(
+// The cells from `from` up to `to` get `cell`.
+fn fill_cells(pool: &mut [i32], cell: i32, from: usize, to: usize)
+    requires { ⌜ (from ≤ to) × (to ≤ length (now pool)) ⌝ }
+    ensures { λ r. ⌜ now (pool .exit) ≡ written cell from (to - from) (now (pool .entry)) ⌝ }
+{
+    let mut i = from;
+    while i < to {
+        pool[i] = cell;
+        i += 1;
+    }
+}
+
+// The first instant from t on whose label is above `high`, or `size`, where the label of an instant u is `first` + u.
+fn stretch_end(first: i64, high: i64, t: usize, size: usize) -> usize
+    requires { ⌜ InReach first t size ⌝ }
+    ensures { λ r. ⌜ Ends first high t size r ⌝ }
+{
+    if high < first + t as i64 {
+        return t;
+    }
+    if first + size as i64 <= high {
+        return size;
+    }
+    (high - first + 1) as usize
+}
+
+// `fill_stretch` along a row of one cell: each instant has a label, one more than the instant before.
+fn fill_one_cell(
+    cell: i32,
+    high: i64,
+    from: Reached,
+    at: usize,
+    size: usize,
+    pool: &mut [i32],
+    start: usize,
+    end: usize,
+    period: i64,
+    distance: i64,
+) -> Reached
+    requires { ⌜ Room start end period distance at size (now pool) ⌝ }
+    requires { ⌜ Follows (rowFrom start end period distance (now pool)) size from ⌝ }
+    requires { ⌜ period ≡ pos 1 ⌝ }
+    ensures { λ r. ⌜ Stretched cell high (rowFrom start end period distance (now (pool .entry))) at size (now (pool .entry)) from r (now (pool .exit)) ⌝ }
+{
+    let first = pool[start] as i64;
+    let t = stretch_end(first, high, from.t, size);
+    fill_cells(pool, cell, at + from.t, at + t);
+    let cursor = Cursor {
+        index: 0,
+        rise: t as i64,
+    };
+    Reached { t, cursor }
+}
+
+// `fill_stretch` along any row, cell by cell.
+fn fill_along(
     cell: i32,
     high: i64,
     from: Reached,
@@ -78,6 +134,53 @@ pub fn fill_stretch(
         t += 1;
     }
     Reached { t, cursor }
+}
+
+// Fills the cells of the instants that follow, as far as the row has no label above `high`, and not beyond `size` instants: `cell` where the row has a
+// label, empty where it has none. The row's cells stand in the pool from `start` up to `end`; the cell of the instant 0 is the one at `at`.
+pub fn fill_stretch(
+    cell: i32,
+    high: i64,
+    from: Reached,
+    at: usize,
+    size: usize,
+    pool: &mut [i32],
+    start: usize,
+    end: usize,
+    period: i64,
+    distance: i64,
+) -> Reached
+    requires { ⌜ Room start end period distance at size (now pool) ⌝ }
+    requires { ⌜ Follows (rowFrom start end period distance (now pool)) size from ⌝ }
+    ensures { λ r. ⌜ Stretched cell high (rowFrom start end period distance (now (pool .entry))) at size (now (pool .entry)) from r (now (pool .exit)) ⌝ }
+{
+    if period == 1 {
+        fill_one_cell(
+            cell,
+            high,
+            from,
+            at,
+            size,
+            pool,
+            start,
+            end,
+            period,
+            distance,
+        )
+    } else {
+        fill_along(
+            cell,
+            high,
+            from,
+            at,
+            size,
+            pool,
+            start,
+            end,
+            period,
+            distance,
+        )
+    }
 }
 
 // Fills the cells of the instants before the first label of the row, which are empty.
