@@ -5,6 +5,7 @@
 --     Starts       what is left of a pass
 --     Rising       whether labels rise alike
 --     Passes       a pass over two rows
+--     OneCell      where one of them has one cell
 --     Looks        a pass that is about to look at an instant
 --     Changes      a pass where every instant has a label, by the changes of b
 --     Codes        labels as numbers
@@ -14,6 +15,7 @@ pub mod Choices
 pub mod Starts
 pub mod Rising
 pub mod Passes
+pub mod OneCell
 pub mod Looks
 pub mod Changes
 pub mod Codes

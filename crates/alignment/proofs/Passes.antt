@@ -172,7 +172,7 @@ module _ (a b : Row) (t : ℤ) (x y : Option ℤ) (xl : x ≡ meant a t) (yl : y
 
 -- ---- what the pass decides
 
-aligned-test : (k : Alignment) (a b : Row) → Valid a → Valid b → (alignedAs k a b ≡ true) ↔ AlignedAs k (meant a) (meant b)
+pub aligned-test : (k : Alignment) (a b : Row) → Valid a → Valid b → (alignedAs k a b ≡ true) ↔ AlignedAs k (meant a) (meant b)
 unfolding aligned
 aligned-test free a b va vb = aligned-iff (binary combine a b) (va, vb)
 aligned-test partition a b va vb = aligned-iff (binary (alter 1 0 (pos 0)) a b) (va, vb)

@@ -29,6 +29,13 @@ asksRise partition = false
 asksRise subcalendar = true
 asksRise compatible = true
 
+-- whether it is that of the set operations
+abbrev pub isCompatible : Alignment → Bool
+isCompatible free = false
+isCompatible partition = false
+isCompatible subcalendar = false
+isCompatible compatible = true
+
 -- over the span they do, where the alignment asks that
 abbrev pub RiseAlike : Alignment → Row → Row → Type 0
 RiseAlike free a b = Unit {0}

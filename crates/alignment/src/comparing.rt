@@ -6,6 +6,7 @@ ghost use Rattle.calendar.specs.Lists.{isSome, sameLabel};
 ghost use Rattle.cursors.specs.Found.{found};
 ghost use Rattle.alignment.specs.Fits as Fits;
 ghost use Rattle.alignment.specs.Fits.{alignmentOf};
+ghost use Rattle.alignment.specs.Pass.{isCompatible};
 use super::Alignment;
 use cursors::Found;
 
@@ -125,5 +126,17 @@ pub fn fits(k: Alignment, o: Found, p: Found, x: Found, y: Found) -> bool
         Alignment::Partition => fits_partition(o, p, x, y),
         Alignment::Subcalendar => fits_subcalendar(o, p, x, y),
         Alignment::Compatible => fits_compatible(o, p, x, y),
+    }
+}
+
+// Whether an alignment is that of the set operations.
+pub fn is_compatible(k: Alignment) -> bool
+    ensures { λ r. ⌜ r ≡ isCompatible (alignmentOf k) ⌝ }
+{
+    match k {
+        Alignment::Free => false,
+        Alignment::Partition => false,
+        Alignment::Subcalendar => false,
+        Alignment::Compatible => true,
     }
 }

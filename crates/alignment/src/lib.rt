@@ -176,7 +176,8 @@ fn asks_rise(k: Alignment) -> bool
     }
 }
 
-// Whether a and b are aligned, as an alignment asks that asks this: that is looked at first.
+// Whether a and b are aligned, as an alignment asks that asks this: that is looked at first. Where one of them has one
+// cell it is enough that the other has its labels, or none.
 fn aligned_alike(
     k: Alignment,
     a_cells: &[i32],
@@ -195,6 +196,14 @@ fn aligned_alike(
 {
     if !rise_alike(a_period, a_distance, b_period, b_distance) {
         return false;
+    }
+    if a_period == 1 {
+        return one_cell::is_along(a_cells, a_period, a_distance, b_cells, b_period, b_distance);
+    }
+    if b_period == 1 {
+        if comparing::is_compatible(k) {
+            return one_cell::is_along(b_cells, b_period, b_distance, a_cells, a_period, a_distance);
+        }
     }
     pass(
         k,

@@ -9,6 +9,7 @@ ghost use Rattle.kinds.specs.declared.Kind.the-variants.{Select};
 ghost use Rattle.kinds.specs.Stands.{rowIn};
 ghost use Rattle.fill_shared.specs.Fillable.{Fillable};
 ghost use Rattle.fill_shared.specs.Placed.{Placed, over, Fills};
+use super::picking;
 use cursors::Found;
 use fill_shared::Filled;
 use fill_shared::any;
@@ -32,8 +33,9 @@ fn kept(j: i64, holds: i64) -> Found
     }
 }
 
-// Fills the working row of a selection. Each granule is decided where its first label shows, and its instants are filled in one stretch.
-pub fn fill_select(
+// Fills the working row of a selection, granule by granule of a: each is decided where its first label shows, and its
+// instants are filled in one stretch.
+fn fill_granules(
     by: Selection,
     span: i64,
     at: usize,
@@ -110,4 +112,31 @@ pub fn fill_select(
         reached = next;
     }
     outcome(labelled)
+}
+
+// Fills the working row of a selection. Pick takes instants of a row of one cell by their place, where b has no gaps.
+pub fn fill_select(
+    by: Selection,
+    span: i64,
+    at: usize,
+    period: usize,
+    pool: &mut [i32],
+    a: Operand,
+    b: Operand,
+) -> Filled
+    requires { ⌜ Fillable (Select by) (rowIn (now pool) a) (rowIn (now pool) b) ⌝ }
+    requires { ⌜ Placed (Select by) a b span at period (now pool) ⌝ }
+    ensures { λ r. ⌜ Fills (over (Select by) (now (pool .entry)) a b) at period (now (pool .entry)) (now (pool .exit)) r ⌝ }
+{
+    let a_start = a.start;
+    let b_start = b.start;
+    let b_end = end_of(b, at);
+    if !select_granules::is_up(by) {
+        if one_cell::serves(a.period, pool[a_start], period) {
+            if counts::labelled_instants(&pool[b_start..b_end]) == b.period {
+                return picking::fill_instants(by, span, at, period, pool, a, b);
+            }
+        }
+    }
+    fill_granules(by, span, at, period, pool, a, b)
 }

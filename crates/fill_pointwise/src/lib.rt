@@ -4,10 +4,13 @@ ghost use mathlib.Core.Path.{_≡_};
 ghost use Prim.Native.Nat.{_+_};
 ghost use lib.IntN.{pos, _+ℤ_};
 ghost use lib.Signed.{_<ℤ_};
+ghost use lib.ListN.{getD};
 ghost use Rattle.calendar.specs.Limits.{poolLimit};
 ghost use Rattle.calendar.specs.Compute.{result};
 ghost use Rattle.calendar.specs.Questions.{given};
 ghost use Rattle.cursors.specs.Found.{found};
+ghost use Rattle.one_cell.specs.Serves.{Serves};
+ghost use Rattle.kinds.specs.declared.Kind.the-variants.{ByLabels};
 ghost use Rattle.kinds.specs.Operations.{operationOf};
 ghost use Rattle.kinds.specs.Stands.{rowIn};
 ghost use Rattle.fill_shared.specs.Fillable.{Fillable};
@@ -24,6 +27,8 @@ use fill_shared::outcome;
 use fill_shared::store;
 use kinds::Operand;
 use kinds::SetOperation;
+
+mod beside;
 
 // The kinds whose labels are decided instant by instant.
 pub enum Pointwise {
@@ -117,8 +122,8 @@ fn step(
     }
 }
 
-// Fills the working row of an anchoring or of a set operation.
-pub fn fill_pointwise(
+// Fills the working row of an anchoring or of a set operation, instant by instant.
+fn fill_stepped(
     by: Pointwise,
     span: i64,
     at: usize,
@@ -170,4 +175,97 @@ pub fn fill_pointwise(
         t += 1;
     }
     outcome(labelled)
+}
+
+// Fills the working row of a set operation where a has one cell: b tells which labels are kept.
+fn fill_first(
+    set: SetOperation,
+    span: i64,
+    at: usize,
+    period: usize,
+    pool: &mut [i32],
+    a: Operand,
+    b: Operand,
+) -> Filled
+    requires { ⌜ Fillable (ByLabels set) (rowIn (now pool) a) (rowIn (now pool) b) ⌝ }
+    requires { ⌜ Placed (ByLabels set) a b span at period (now pool) ⌝ }
+    requires { ⌜ Serves (a .period) (getD (now pool) (a .start) (pos 0)) period ⌝ }
+    ensures { λ r. ⌜ Fills (over (ByLabels set) (now (pool .entry)) a b) at period (now (pool .entry)) (now (pool .exit)) r ⌝ }
+{
+    let start = a.start;
+    let from = b.start;
+    let first = pool[start];
+    let bare = beside::keeps_first(set);
+    let shared = beside::keeps_shared(set);
+    let count = beside::fill_beside(first, bare, shared, from, at, period, &mut *pool);
+    outcome(count > 0)
+}
+
+// The same where b has one cell: a tells.
+fn fill_second(
+    set: SetOperation,
+    span: i64,
+    at: usize,
+    period: usize,
+    pool: &mut [i32],
+    a: Operand,
+    b: Operand,
+) -> Filled
+    requires { ⌜ Fillable (ByLabels set) (rowIn (now pool) a) (rowIn (now pool) b) ⌝ }
+    requires { ⌜ Placed (ByLabels set) a b span at period (now pool) ⌝ }
+    requires { ⌜ Serves (b .period) (getD (now pool) (b .start) (pos 0)) period ⌝ }
+    ensures { λ r. ⌜ Fills (over (ByLabels set) (now (pool .entry)) a b) at period (now (pool .entry)) (now (pool .exit)) r ⌝ }
+{
+    let start = b.start;
+    let from = a.start;
+    let first = pool[start];
+    let bare = beside::keeps_second(set);
+    let shared = beside::keeps_shared(set);
+    let count = beside::fill_beside(first, bare, shared, from, at, period, &mut *pool);
+    outcome(count > 0)
+}
+
+// Fills the working row of a set operation.
+fn fill_set(
+    set: SetOperation,
+    span: i64,
+    at: usize,
+    period: usize,
+    pool: &mut [i32],
+    a: Operand,
+    b: Operand,
+) -> Filled
+    requires { ⌜ Fillable (ByLabels set) (rowIn (now pool) a) (rowIn (now pool) b) ⌝ }
+    requires { ⌜ Placed (ByLabels set) a b span at period (now pool) ⌝ }
+    ensures { λ r. ⌜ Fills (over (ByLabels set) (now (pool .entry)) a b) at period (now (pool .entry)) (now (pool .exit)) r ⌝ }
+{
+    let a_start = a.start;
+    let b_start = b.start;
+    if one_cell::serves(a.period, pool[a_start], period) {
+        return fill_first(set, span, at, period, pool, a, b);
+    }
+    if one_cell::serves(b.period, pool[b_start], period) {
+        return fill_second(set, span, at, period, pool, a, b);
+    }
+    fill_stepped(Pointwise::ByLabels(set), span, at, period, pool, a, b)
+}
+
+// Fills the working row of an anchoring or of a set operation.
+pub fn fill_pointwise(
+    by: Pointwise,
+    span: i64,
+    at: usize,
+    period: usize,
+    pool: &mut [i32],
+    a: Operand,
+    b: Operand,
+) -> Filled
+    requires { ⌜ Fillable (kindOf by) (rowIn (now pool) a) (rowIn (now pool) b) ⌝ }
+    requires { ⌜ Placed (kindOf by) a b span at period (now pool) ⌝ }
+    ensures { λ r. ⌜ Fills (over (kindOf by) (now (pool .entry)) a b) at period (now (pool .entry)) (now (pool .exit)) r ⌝ }
+{
+    match by {
+        Pointwise::Anchor => fill_stepped(Pointwise::Anchor, span, at, period, pool, a, b),
+        Pointwise::ByLabels(set) => fill_set(set, span, at, period, pool, a, b),
+    }
 }

@@ -1,6 +1,6 @@
 -- The laws of stretches.
 --     Growing      the pool as a stretch is filled, instant by instant
---     OneCell      a row of one cell: its labels and cursors, and a stretch along it
+--     OneCell      a stretch along a row of one cell
 --     Stretching   a stretch of a loop that fills a working row; what its end says
 --     Stages       what holds between two stretches
 pub mod Growing

@@ -1,4 +1,4 @@
--- A row of one cell, with the label c: its distance is 1 too, so the instant u has the label c + u. A stretch along it.
+-- A stretch along a row of one cell.
 -- Assumes nothing.
 use mathlib.Core.Path.{_≡_, refl, sym, _∙_, ap, ap₂, subst}
 use mathlib.Core.Option.{Option, some}
@@ -6,72 +6,18 @@ use mathlib.Core.Bool.{true}
 use mathlib.Core.List.{List}
 use Prim.Native.Nat.{ℕ, zero, suc, _+_, _-_, _≤_, _<_}
 use native.Mathlib.Omega.{arith}
-use lib.IntN.{ℤ, pos, _+ℤ_, _-ℤ_, _*ℤ_}
+use lib.IntN.{ℤ, pos, _+ℤ_, _-ℤ_}
 use lib.Signed.{_≤ℤ_, _<ℤ_}
 use lib.ListN.{length, set, getD, take, drop, length-set, length-drop}
 use lib.Seq.{getD-take, getD-drop, length-take-le}
-use Rattle.integers.specs.Parts.{up}
-use Rattle.integers.specs.Floor.{floorDiv, floorMod}
 use Rattle.integers.proofs.Linear.{ints, _∴_}
-use Rattle.integers.proofs.Floor.{floor-lt}
 use Rattle.calendar.specs.Limits.{inRange}
-use Rattle.calendar.specs.Meaning.{Row, meant, raise, labelOf, empty}
-use Rattle.calendar.specs.Questions.{given}
-use Rattle.granules.proofs.Rows.{cellLabel, meant-some, label-is}
+use Rattle.calendar.specs.Meaning.{Row, meant, empty}
 use Rattle.granules.proofs.Tests.{some-inj}
-use Rattle.cursors.specs.declared.Cursor.{Cursor}
-use Rattle.cursors.specs.Found.{Sound}
-use Rattle.cursors.specs.Cursor.{cursorAt}
-use Rattle.cursors.proofs.Numbers.{valid, numbers}
-use Rattle.cursors.proofs.Bounds.{in-range, cell-bound}
 use Rattle.cursors.proofs.Cells.{getD-any}
-use Rattle.cursors.proofs.Cursors.{cursor-of, cursor-meant}
+use Rattle.one_cell.proofs.Labels.{one-length, one-range, one-cursor, one-meant}
 use Rattle.fill_stretches.specs.declared.Reached.{Reached}
 use Rattle.fill_stretches.specs.Stretch.{cellWhere, rowFrom, stretched, written, Room, Ends, Stretched}
-
--- ---- the row
-
-module _ (period distance : ℤ) (cells : List ℤ) (s : Sound period distance cells) (one : period ≡ pos 1) where
-  abbrev row : Row
-  row = given period distance cells
-
-  abbrev c : ℤ
-  c = getD cells 0 empty
-
-  period-one : up period ≡ 1
-  period-one = ap up one
-
-  distance-one : up distance ≡ 1
-  distance-one = let n = numbers period distance cells s in omega (arith, period-one)
-
-  one-length : length cells ≡ 1
-  one-length = numbers period distance cells s .whole ∙ period-one
-
-  -- some instant has a label, and so the cell has one
-  labelled : labelOf c ≡ some c
-  labelled =
-      let v = valid period distance cells s in
-      let t = v .labelled .0 in
-      let j = v .label -ℤ pos (up distance) *ℤ floorDiv t (up period) in
-      let z : floorMod t (up period) ≡ 0 = omega (arith, floor-lt (up period) (v .positive .0) t, period-one) in
-      let l = meant-some row t (v .label) .0 (v .labelled .1) in
-      let e : labelOf c ≡ some j = subst (λ (m : ℕ). cellLabel row m ≡ some j) z l in
-      e ∙ ap some (sym (label-is c j e))
-
-  one-range : inRange c ≡ true
-  one-range = in-range c .1 (cell-bound period distance cells s 0 c labelled)
-
-  one-cursor : (u : ℕ) → _≡_ {A = Cursor} (record { index = pos 0; rise = pos u }) (cursorAt row (pos u))
-  one-cursor u =
-      let p = period-one in
-      let d = distance-one in
-      cursor-of row (pos u) (pos u) (pos 0) (pos u) 0
-      (rw p (simp ints (omega arith))) (omega arith) refl (rw d (simp ints (omega arith)))
-
-  one-meant : (u : ℕ) → meant row (pos u) ≡ some (c +ℤ pos u)
-  one-meant u =
-      cursor-meant row (record { index = pos 0; rise = pos u }) (pos u) (one-cursor u)
-      ∙ ap (raise (pos u)) labelled
 
 -- ---- the cells that are written
 
@@ -141,13 +87,13 @@ module _ (start end : ℕ) (period distance : ℤ) (at size : ℕ) (pool : List 
   first-range = subst (λ (z : ℤ). inRange z ≡ true) first-is (one-range period distance cells (f .is-sound) one)
 
   label-of : (u : ℕ) → meant row-of (pos u) ≡ some (first +ℤ pos u)
-  label-of u = one-meant period distance cells (f .is-sound) one u ∙ ap (λ (z : ℤ). some (z +ℤ pos u)) first-is
+  label-of u = one-meant period distance cells (f .is-sound) one (pos u) ∙ ap (λ (z : ℤ). some (z +ℤ pos u)) first-is
 
   pub one-stretched : (c h : ℤ) (p : Reached) (e : ℕ) (new : List ℤ) → Ends first h (p .t) size e
       → new ≡ written c (at + p .t) (at + e - (at + p .t)) pool
       → Stretched c h row-of at size pool p (record { t = e; cursor = record { index = pos 0; rise = pos e } }) new
   one-stretched c h p e new x w = record {
-    follows = record { in-room = x .in-room; cursor = one-cursor period distance cells (f .is-sound) one e };
+    follows = record { in-room = x .in-room; cursor = one-cursor period distance cells (f .is-sound) one (pos e) };
     on = x .on;
     cells =
         let y : at + e - (at + p .t) ≡ e - p .t = omega arith in

@@ -90,7 +90,7 @@ fn decide(holds: bool, picked: Picked) -> Decision
 }
 
 // Whether the kind is select-up.
-fn is_up(s: Selection) -> bool
+pub fn is_up(s: Selection) -> bool
     ensures { λ r. ⌜ r ≡ isUp s ⌝ }
 {
     match s {
@@ -110,7 +110,7 @@ fn is_whole(s: Selection) -> bool
 }
 
 // Its Pick, where it has one.
-fn pick_of(s: Selection) -> Pick
+pub fn pick_of(s: Selection) -> Pick
     ensures { λ r. ⌜ ((p : Pick) → s ≡ Down p → r ≡ p) × ((p : Pick) → s ≡ Intersecting p → r ≡ p) ⌝ }
 {
     match s {

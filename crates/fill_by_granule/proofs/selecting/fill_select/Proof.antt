@@ -1,298 +1,155 @@
--- `fill_by_granule::selecting::fill_select` meets its contract: each turn of the loop decides a granule of a and writes the cells of its instants.
---     Begun        before the loop: its invariant, the rows that are lent, and the cells before the first label
---     Turning      a turn: what is decided, and what holds behind it
+-- `fill_by_granule::selecting::fill_select` meets its contract: both ways do.
 -- Assumes nothing.
-use borrow.Author.Tests.{not-true}
-use mathlib.Core.Path.{_≡_, refl, sym, _∙_}
-use mathlib.Core.Bool.{true}
+use borrow.Author.Needs.{needs, sfits-of}
+use mathlib.Core.Path.{_≡_, sym, _∙_, ap}
+use mathlib.Core.Bool.{true, false}
 use mathlib.Core.List.{List}
-use Prim.Native.Nat.{_-_, _^_, _≤_, _<_}
+use Prim.Native.Nat.{ℕ, _-_, _≤_, _<_}
 use native.Mathlib.Omega.{arith}
-use lib.IntN.{ℤ, pos, _+ℤ_}
-use lib.Signed.{_≤ℤ_}
-use lib.ListN.{length}
-use mir.Syntax.{w64}
-use mir.Val.{toZ, ofZ}
-use Rattle.integers.proofs.Linear.{ints}
-use Rattle.integers.proofs.Machine.{plain}
-use Rattle.calendar.specs.Limits.{poolLimit}
-use Rattle.calendar.specs.Sound.{sound}
-use Rattle.cursors.specs.Found.{Near}
-use Rattle.cursors.specs.Cursor.{cursorAt, Standing, Shown}
-use Rattle.fill_shared.proofs.Filling.{rowOf, filling-length, rows-kept, rows-stood, filling-out, filling-done}
-use Rattle.fill_stretches.specs.Stretch.{Follows}
-use Rattle.fill_stretches.proofs.Stages.{room-a}
-use Rattle.fill_by_granule.proofs.selecting.fill_select.Proof.Begun.{Inv-loop, μ-loop, entry, old, A, B, start, as-filled, a-sound, b-sound, a-part, b-part, led, led-part, led-few}
-use Rattle.fill_by_granule.proofs.selecting.fill_select.Proof.Turning.{at-of, base, Holds, holds, same, inside, few, kept, in-of, loop-at, label, label-is, label-fits, Asks, shown, decided-of, at-label, given-label, given-result, in-range, Filled, at-filled, filled-pool, filled, goes-on}
+use lib.IntN.{ℤ, pos}
+use lib.ListN.{length, getD, take, drop}
+use mir.Syntax.{w32, w64}
+use mir.Val.{SFits, toZ, ofZ}
+use Rattle.integers.specs.Parts.{up}
+use Rattle.integers.proofs.Machine.{plain, test-eq}
+use Rattle.calendar.specs.Sound.{labelsOf}
+use Rattle.granules.proofs.Sound.{sound-valid}
+use Rattle.granules.proofs.Tests.{not-iff}
+use Rattle.alignment.specs.Pass.{Whole}
+use Rattle.alignment.proofs.Changes.{all-whole}
+use Rattle.one_cell.specs.Serves.{Serves}
+use Rattle.kinds.specs.declared.Operand.{Operand}
+use Rattle.kinds.specs.Stands.{end, rowIn}
+use Rattle.select_granules.specs.Deciding.{isUp}
 use Rattle.fill_by_granule.proofs.selecting.fill_select.Statement.{statement}
 use Rattle.fill_by_granule.proofs.selecting.fill_select.Tie as tie
-mod Begun
-mod Turning
 
--- ---- the rows that are lent
+end-of-requires : tie.Need-end-of-requires
+end-of-requires c κs = (c .pre .1 .b-period, c .pre .1 .b-end)
 
-end-of-requires : tie.Need-end-of-requires Inv-loop μ-loop
-end-of-requires c κs = (c .pre .1 .a-period, c .pre .1 .a-end)
+is-up-requires : tie.Need-is-up-requires
+is-up-requires c κs = tt
 
-end-of-requires-2 : tie.Need-end-of-requires-2 Inv-loop μ-loop
-end-of-requires-2 c κs = let s = c .before .before .before in (s .pre .1 .b-period, s .pre .1 .b-end)
+-- the operands stand in the pool
+a-in : (s : tie.Start) → s .args .a .start < length (s .args .pool .now)
+a-in s =
+    let p = s .pre .1 in
+    let l = sound-valid (rowIn (s .args .pool .now) (s .args .a)) (s .pre .0 .sounds .0) .positive .0 in
+    omega (arith, p .a-end, p .room, l)
 
--- ---- up to the first label
+b-in : (c : tie.After-end-of) → let a = c .before .args in (a .b .start ≤ c .end-of .result) × (c .end-of .result ≤ length (a .pool .now))
+b-in c = let p = c .before .pre .1 in let e = c .end-of .ensures in (omega (arith, e), omega (arith, e, p .b-end, p .room))
 
-fill-leading-requires : tie.Need-fill-leading-requires Inv-loop μ-loop
-fill-leading-requires c κs = let k = c .before in room-a _ (A k) (B k) _ _ (old k) _ _ _ (start k) (a-sound k)
+mul-serves : tie.Need-mul-serves
+mul-serves c = let s = c .before .before .before in omega (arith, a-in s, s .pre .1 .at-most)
 
-mul-cursor-at : tie.Need-mul-cursor-at Inv-loop μ-loop
-mul-cursor-at c = let h = led-part (c .before) in omega arith
+slice-copy-out-serves : tie.Need-slice-copy-out-serves
+slice-copy-out-serves c = a-in (c .before .before .before)
 
-sub-cursor-at : tie.Need-sub-cursor-at Inv-loop μ-loop
-sub-cursor-at c = led-part (c .before) .0
+serves-requires : tie.Need-serves-requires
+serves-requires c κs = let p = c .before .before .before .before .before .pre .1 in omega (arith, p .room, p .at-most)
 
-part-cursor-at-start : tie.Need-part-cursor-at-start Inv-loop μ-loop
-part-cursor-at-start c = led-part (c .before .before) .0
+mul-labelled-instants : tie.Need-mul-labelled-instants
+mul-labelled-instants c =
+    let e = c .before .before .before .before .before .before in
+    omega (arith, b-in e .0, b-in e .1, e .before .pre .1 .at-most)
 
-part-cursor-at-end : tie.Need-part-cursor-at-end Inv-loop μ-loop
-part-cursor-at-end c = led-part (c .before .before) .1
+sub-labelled-instants : tie.Need-sub-labelled-instants
+sub-labelled-instants c = b-in (c .before .before .before .before .before .before) .0
 
-cast-cursor-at : tie.Need-cast-cursor-at Inv-loop μ-loop
-cast-cursor-at c = let h = led-few (c .before .before .before .before) in simp ints (omega arith)
+part-labelled-instants-start : tie.Need-part-labelled-instants-start
+part-labelled-instants-start c = b-in (c .before .before .before .before .before .before .before) .0
 
-cursor-at-requires : tie.Need-cursor-at-requires Inv-loop μ-loop
-cursor-at-requires c κs =
-    let f = c .before .before .before .before in
-    let h = led-few f in
-    let n : f .fill-leading .result .t < 2 ^ 63 = omega arith in
-    rows-kept _ _ _ _ _ _ _ _ _ (led f) (λ x y. (sound y ≡ true) × Near (toZ w64 (ofZ w64 (pos (f .fill-leading .result .t))))) (b-sound (f .before .before), simp plain (simp ints (omega arith)))
+part-labelled-instants-end : tie.Need-part-labelled-instants-end
+part-labelled-instants-end c = b-in (c .before .before .before .before .before .before .before) .1
 
-unknown-requires : tie.Need-unknown-requires Inv-loop μ-loop
-unknown-requires c κs = tt
+labelled-instants-requires : tie.Need-labelled-instants-requires
+labelled-instants-requires c κs = search needs
 
-loop-holds : tie.Need-loop-holds Inv-loop μ-loop
-loop-holds c = λ x h. h
+-- ---- a has one cell, and b no gaps
 
--- ---- a granule
+abbrev Counted : Type 0
+Counted = tie.Then3
 
-mul-label-of : tie.Need-mul-label-of Inv-loop μ-loop
-mul-label-of c = let l = at-of c in let h = a-part (base l) (l .loop .pool) (same l) in omega arith
+abbrev looked : Counted → tie.Then2
+looked c = c .before .before .before .before .before .before
 
-sub-label-of : tie.Need-sub-label-of Inv-loop μ-loop
-sub-label-of c = let l = at-of c in a-part (base l) (l .loop .pool) (same l) .0
+abbrev ended : Counted → tie.After-end-of
+ended c = looked c .before .before .before .before .before .before
 
-part-label-of-start : tie.Need-part-label-of-start Inv-loop μ-loop
-part-label-of-start c = let l = at-of (c .before) in a-part (base l) (l .loop .pool) (same l) .0
+one-of : (r : Operand) (period : ℕ) (pool : List ℤ) → SFits w64 (r .period) → SFits w32 (getD pool (r .start) (pos 0))
+    → Serves (toZ w64 (ofZ w64 (r .period))) (toZ w32 (ofZ w32 (getD pool (r .start) (pos 0)))) period → Serves (r .period) (getD pool (r .start) (pos 0)) period
+one-of r period pool f g e = simp plain at e
 
-part-label-of-end : tie.Need-part-label-of-end Inv-loop μ-loop
-part-label-of-end c = let l = at-of (c .before) in a-part (base l) (l .loop .pool) (same l) .1
+serves : (c : Counted) → let a = ended c .before .args in Serves (a .a .period) (getD (a .pool .now) (a .a .start) (pos 0)) (a .period)
+serves c =
+    let t = looked c in
+    let r = t .before in
+    let a = ended c .before .args in
+    one-of (a .a) (a .period) (a .pool .now) (sfits-of (r .before .struct-told .given .1 .0 .1)) (sfits-of (r .before .before .serves-arg .given)) (r .serves .ensures (t .if2 .taken))
 
-label-of-requires : tie.Need-label-of-requires Inv-loop μ-loop
-label-of-requires c κs =
-    let i = c .before .before in
-    let l = at-of i in
-    let k = base l in
-    let h = holds l in
-    let n = few i in
-    kept l (old k) h (λ x y. (sound x ≡ true) × Shown x (l .loop .reached .cursor)) (a-sound k, (pos (l .loop .reached .t), simp ints (omega arith), h .along .stage .follows .cursor, h .along .stage .stops (inside i)))
+whole : (c : Counted) → let a = ended c .before .args in Whole (rowIn (a .pool .now) (a .b))
+whole c =
+    let e = ended c in
+    let s = e .before in
+    let a = s .args in
+    let k = c .before .before .before in
+    let r = k .labelled-instants .result in
+    let is : r ≡ a .b .period = test-eq w64 r (a .b .period) (sfits-of (k .labelled-instants .ok)) (sfits-of (c .before .struct-told2 .given .1 .0 .1)) .0 (c .if3 .taken) in
+    let n : e .end-of .result - a .b .start ≡ up (a .b .period) = omega (arith, e .end-of .ensures) in
+    let l = ap up (sym (k .labelled-instants .ensures) ∙ is) in
+    all-whole (rowIn (a .pool .now) (a .b)) (sound-valid (rowIn (a .pool .now) (a .b)) (s .pre .0 .sounds .1))
+    (ap (λ (m : ℕ). length (labelsOf (take m (drop (a .b .start) (a .pool .now))))) (sym n) ∙ l)
 
-cast-decided : tie.Need-cast-decided Inv-loop μ-loop
-cast-decided c = let h = few (in-of (c .before)) in simp ints (omega arith)
+picks : (c : Counted) → isUp (ended c .before .args .by) ≡ false
+picks c =
+    let t = looked c .before .before .before .before in
+    sym (t .before .is-up .ensures) ∙ not-iff (t .before .is-up .result) .0 (t .if1 .taken)
 
-mul-decided : tie.Need-mul-decided Inv-loop μ-loop
-mul-decided c = let l = loop-at (c .before) in let h = a-part (base l) (l .loop .pool) (same l) in omega arith
+fill-instants-requires : tie.Need-fill-instants-requires
+fill-instants-requires c κs =
+    let k = c .before in
+    let s = ended k .before in
+    let n = s .fits .span in
+    simp plain (s .pre .0, (s .pre .1, (picks k, (serves k, whole k))))
 
-sub-decided : tie.Need-sub-decided Inv-loop μ-loop
-sub-decided c = let l = loop-at (c .before) in a-part (base l) (l .loop .pool) (same l) .0
+same-length : tie.Need-same-length
+same-length c = c .before .fill-instants .ensures .lengths
 
-part-decided-start : tie.Need-part-decided-start Inv-loop μ-loop
-part-decided-start c = let l = loop-at (c .before .before) in a-part (base l) (l .loop .pool) (same l) .0
+returns : tie.Need-returns
+returns c = c .before .fill-instants .ensures
 
-part-decided-end : tie.Need-part-decided-end Inv-loop μ-loop
-part-decided-end c = let l = loop-at (c .before .before) in a-part (base l) (l .loop .pool) (same l) .1
+-- ---- any rows
 
-mul-decided-2 : tie.Need-mul-decided-2 Inv-loop μ-loop
-mul-decided-2 c = let l = loop-at (c .before .before .before) in let h = b-part (base l) (l .loop .pool) (same l) in omega arith
-
-sub-decided-2 : tie.Need-sub-decided-2 Inv-loop μ-loop
-sub-decided-2 c = let l = loop-at (c .before .before .before) in b-part (base l) (l .loop .pool) (same l) .0
-
-part-decided-start-2 : tie.Need-part-decided-start-2 Inv-loop μ-loop
-part-decided-start-2 c = let l = loop-at (c .before .before .before) in b-part (base l) (l .loop .pool) (same l) .0
-
-part-decided-end-2 : tie.Need-part-decided-end-2 Inv-loop μ-loop
-part-decided-end-2 c = let l = loop-at (c .before .before .before) in b-part (base l) (l .loop .pool) (same l) .1
-
-decided-requires : tie.Need-decided-requires Inv-loop μ-loop
-decided-requires c κs =
+fill-granules-requires : tie.Need-fill-granules-requires
+fill-granules-requires c κs =
     let s = c .before .before .before .before in
-    let l = loop-at s in
-    let k = base l in
-    let h = holds l in
-    let n = few (in-of s) in
-    let m : l .loop .reached .t < 2 ^ 63 = omega arith in
-    let j = label-fits s in
-    let e = label-is s (old k) h in
-    kept l (old k) h (Asks l (toZ w64 (ofZ w64 (pos (l .loop .reached .t)))) (toZ w64 (ofZ w64 (label s))))
-    (simp plain (a-sound k, (b-sound k, (start k .lends .is-fillable .numbers, (h .remembers, (simp ints (omega arith), (e, (h .along .stage .follows .cursor, (h .along .is-cursor, λ f. h .along .begins f (inside (in-of s)) (label s) e)))))))))
+    let n = s .fits .span in
+    simp plain (s .pre .0, s .pre .1)
 
-kept-requires : tie.Need-kept-requires Inv-loop μ-loop
-kept-requires c κs = tt
+same-length-2 : tie.Need-same-length-2
+same-length-2 c = c .before .fill-granules .ensures .lengths
 
-in-limits-requires : tie.Need-in-limits-requires Inv-loop μ-loop
-in-limits-requires c κs = tt
-
-same-length : tie.Need-same-length Inv-loop μ-loop
-same-length c = same (at-label (c .before .before))
-
-returns : tie.Need-returns Inv-loop μ-loop
-returns c =
-    let y = c .before .before in
-    let l = at-label y in
-    as-filled (base l) _ _
-    (filling-out _ _ _ _ _ _ _ _ _ (holds l .along .stage .filling) (inside (in-of (shown (decided-of y)))) (given-label y) (given-result y) _ refl (sym (c .before .in-limits .ensures) ∙ not-true _ (c .if2 .taken)))
-
-cell-of-requires : tie.Need-cell-of-requires Inv-loop μ-loop
-cell-of-requires c κs = in-range c
-
--- ---- its instants
-
-fill-stretch-requires : tie.Need-fill-stretch-requires Inv-loop μ-loop
-fill-stretch-requires c κs =
-    let l = at-label (c .before .before .before .before) in
-    let k = base l in
-    let h = holds l in
-    (room-a _ (A k) (B k) _ _ (old k) _ _ _ (h .along .stage .filling) (a-sound k), kept l (old k) h (λ x y. Follows x (entry k .args .period) (l .loop .reached)) (h .along .stage .follows))
-
-filled-part : (c : Filled) → let k = base (at-filled c) in (B k .start ≤ B k .end) × (B k .end ≤ length (filled-pool c)) × (B k .end ≤ poolLimit)
-filled-part c = let l = at-filled c in let k = base l in b-part k (filled-pool c) (filling-length _ _ _ _ _ _ _ _ _ (filled c (old k) (holds l) _ refl .along .stage .filling))
-
-filled-few : (c : Filled) → c .fill-stretch .result .t ≤ poolLimit
-filled-few c = let l = at-filled c in let k = base l in let h = filled c (old k) (holds l) _ refl .along .stage in let d = h .filling .lends in omega (arith, h .follows .in-room, d .room, d .few)
-
-mul-cursor-on : tie.Need-mul-cursor-on Inv-loop μ-loop
-mul-cursor-on c = let h = filled-part (c .before) in omega arith
-
-sub-cursor-on : tie.Need-sub-cursor-on Inv-loop μ-loop
-sub-cursor-on c = filled-part (c .before) .0
-
-part-cursor-on-start : tie.Need-part-cursor-on-start Inv-loop μ-loop
-part-cursor-on-start c = filled-part (c .before .before) .0
-
-part-cursor-on-end : tie.Need-part-cursor-on-end Inv-loop μ-loop
-part-cursor-on-end c = filled-part (c .before .before) .1
-
-sub-cursor-on-2 : tie.Need-sub-cursor-on-2 Inv-loop μ-loop
-sub-cursor-on-2 c = let h = goes-on (c .before .before .before .before .before) in omega arith
-
-cast-cursor-on : tie.Need-cast-cursor-on Inv-loop μ-loop
-cast-cursor-on c = let h = filled-few (c .before .before .before .before .before) in simp ints (omega arith)
-
-cursor-on-requires : tie.Need-cursor-on-requires Inv-loop μ-loop
-cursor-on-requires c κs =
-    let f = c .before .before .before .before .before in
-    let l = at-filled f in
-    let k = base l in
-    let p = l .loop .reached .t in
-    let n = filled-few f in
-    let g = goes-on f in
-    let m : f .fill-stretch .result .t - p < 2 ^ 63 = omega arith in
-    let h = holds l in
-    rows-kept _ _ _ _ _ _ _ _ _ (filled f (old k) h _ refl .along .stage .filling)
-    (λ x y. (sound y ≡ true) × (Standing y (l .loop .b-cursor) × ((pos 0 ≤ℤ toZ w64 (ofZ w64 (pos (f .fill-stretch .result .t - p)))) × (toZ w64 (ofZ w64 (pos (f .fill-stretch .result .t - p))) ≤ℤ pos (2 ^ 32)))))
-    (simp plain (b-sound k, ((pos p, simp ints (omega arith), h .along .is-cursor), (simp ints (omega arith), simp ints (omega arith)))))
-
--- the cursor of the next instant
-next-cursor : (c : tie.After-cursor-on Inv-loop μ-loop) (x : List ℤ) → let f = c .before .before .before .before .before .before in let l = at-filled f in Holds l x
-    → c .cursor-on .result ≡ cursorAt (rowOf (B (base l)) x) (pos (f .fill-stretch .result .t))
-next-cursor c x h =
-    let f = c .before .before .before .before .before .before in
-    let l = at-filled f in
-    let p = l .loop .reached .t in
-    let q = f .fill-stretch .result .t in
-    let n = filled-few f in
-    let g = goes-on f in
-    let m : q - p < 2 ^ 63 = omega arith in
-    let t = filled f x h _ refl .along .stage .filling in
-    let e : pos p +ℤ pos (q - p) ≡ pos q = simp ints (omega arith) in
-    rows-stood _ _ _ _ _ _ _ _ _ t (λ y z. c .cursor-on .result ≡ cursorAt z (pos q))
-    (rw e at ((simp plain at (c .cursor-on .ensures)) (pos p) (rows-kept _ _ _ _ _ _ _ _ _ t (λ y z. l .loop .b-cursor ≡ cursorAt z (pos p)) (h .along .is-cursor))))
-
-any-requires : tie.Need-any-requires Inv-loop μ-loop
-any-requires c κs = tt
-
-loop-less : tie.Need-loop-less Inv-loop μ-loop
-loop-less c =
-    let f = c .before .before .before .before .before .before .before .before in
-    let k = base (at-filled f) in
-    let h = filled f (old k) (holds (at-filled f)) _ refl .along .stage .follows .in-room in
-    omega (arith, goes-on f, h)
-
-loop-again : tie.Need-loop-again Inv-loop μ-loop
-loop-again c = λ x g.
-    let f = c .before .before .before .before .before .before .before .before in
-    let l = at-filled f in
-    let h = l .loop .inv x g in
-    rw (c .any .ensures) (filled f x h (c .before .before .cursor-on .result) (next-cursor (c .before .before) x h))
-
--- ---- the end
-
-outcome-requires : tie.Need-outcome-requires Inv-loop μ-loop
-outcome-requires c κs = tt
-
-same-length-2 : tie.Need-same-length-2 Inv-loop μ-loop
-same-length-2 c = same (c .before .before .before)
-
-returns-2 : tie.Need-returns-2 Inv-loop μ-loop
-returns-2 c =
-    let l = c .before .before .before in
-    as-filled (base l) _ _ (rw (c .outcome .ensures) (filling-done _ _ _ _ _ _ _ _ _ (holds l .along .stage .filling) (c .before .if1 .left)))
+returns-2 : tie.Need-returns-2
+returns-2 c = c .before .fill-granules .ensures
 
 pub fill-select-spec : {M : Type 1} → statement M
 fill-select-spec =
     tie.close
     (tie.spec
-    Inv-loop
-    μ-loop
     end-of-requires
-    end-of-requires-2
-    fill-leading-requires
-    mul-cursor-at
-    sub-cursor-at
-    part-cursor-at-start
-    part-cursor-at-end
-    cast-cursor-at
-    cursor-at-requires
-    unknown-requires
-    loop-holds
-    mul-label-of
-    sub-label-of
-    part-label-of-start
-    part-label-of-end
-    label-of-requires
-    cast-decided
-    mul-decided
-    sub-decided
-    part-decided-start
-    part-decided-end
-    mul-decided-2
-    sub-decided-2
-    part-decided-start-2
-    part-decided-end-2
-    decided-requires
-    kept-requires
-    in-limits-requires
+    is-up-requires
+    mul-serves
+    slice-copy-out-serves
+    serves-requires
+    mul-labelled-instants
+    sub-labelled-instants
+    part-labelled-instants-start
+    part-labelled-instants-end
+    labelled-instants-requires
+    fill-instants-requires
     same-length
     returns
-    cell-of-requires
-    fill-stretch-requires
-    mul-cursor-on
-    sub-cursor-on
-    part-cursor-on-start
-    part-cursor-on-end
-    sub-cursor-on-2
-    cast-cursor-on
-    cursor-on-requires
-    any-requires
-    loop-less
-    loop-again
-    outcome-requires
+    fill-granules-requires
     same-length-2
     returns-2)

@@ -1,4 +1,4 @@
--- A turn of the loop of `fill_by_granule::selecting::fill_select`: what holds before a granule, what is decided of it, and what holds behind it.
+-- A turn of the loop of `fill_by_granule::selecting::fill_granules`: what holds before a granule, what is decided of it, and what holds behind it.
 -- Assumes nothing.
 use borrow.Author.Needs.{sfits-of}
 use borrow.Author.Tests.{not-false}
@@ -35,8 +35,8 @@ use Rattle.fill_shared.proofs.Filling.{rowOf, filling-length, rows-kept, rows-s
 use Rattle.fill_stretches.specs.Stretch.{Stretched}
 use Rattle.fill_stretches.proofs.Stages.{cell-fits}
 use Rattle.fill_by_granule.proofs.Selects.{Selecting, decided-label, selecting-next, granule-on}
-use Rattle.fill_by_granule.proofs.selecting.fill_select.Proof.Begun.{Inv-loop, μ-loop, Base, entry, by, old, A, B, a-row, b-row, a-sound, started}
-use Rattle.fill_by_granule.proofs.selecting.fill_select.Tie as tie
+use Rattle.fill_by_granule.proofs.selecting.fill_granules.Proof.Begun.{Inv-loop, μ-loop, Base, entry, by, old, A, B, a-row, b-row, a-sound, started}
+use Rattle.fill_by_granule.proofs.selecting.fill_granules.Tie as tie
 
 -- ---- before a granule
 

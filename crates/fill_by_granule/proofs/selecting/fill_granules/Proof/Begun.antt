@@ -1,4 +1,4 @@
--- Before the loop of `fill_by_granule::selecting::fill_select`: its invariant, and the rows that are lent.
+-- Before the loop of `fill_by_granule::selecting::fill_granules`: its invariant, and the rows that are lent.
 -- Assumes nothing.
 use borrow.Author.Needs.{sfits-of}
 use mathlib.Core.Path.{_≡_, refl}
@@ -23,7 +23,7 @@ use Rattle.fill_shared.specs.Placed.{Fills}
 use Rattle.fill_shared.proofs.Filling.{Lent, Filling, lentAs, lentOf, rowOf, first-two, fills-two, filling-length, rows-stood}
 use Rattle.fill_stretches.proofs.Stretching.{filling-led}
 use Rattle.fill_by_granule.proofs.Selects.{Selecting, unlabelled, selecting-none}
-use Rattle.fill_by_granule.proofs.selecting.fill_select.Tie as tie
+use Rattle.fill_by_granule.proofs.selecting.fill_granules.Tie as tie
 
 abbrev pub Inv-loop : tie.InvT-loop
 Inv-loop by span at period pool₀ a-start a-end a-period a-distance b-start b-end b-period b-distance reached₀ b-cursor₀ fresh₀ picked₀ labelled₀ pool reached b-cursor fresh picked labelled =
