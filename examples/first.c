@@ -5,6 +5,9 @@
 
 enum { ENTRIES = 5, CELLS = 64 };
 
+/* What a heading says of its entry's row. */
+enum { START, PERIOD, DISTANCE, SLOTS, HEADING };
+
 /* Kind, first, second, x, y, z of each entry. */
 static const int32_t table[6 * ENTRIES] = {
     0,  0, 0, 0, 0, 0, /* 0: days, each its own label */
@@ -15,21 +18,24 @@ static const int32_t table[6 * ENTRIES] = {
 };
 
 static int32_t pool[CELLS];
-static uint32_t headings[3 * ENTRIES];
+static uint32_t headings[HEADING * ENTRIES];
+
+/* A number of an entry's heading. */
+#define OF(entry, number) headings[HEADING * (entry) + (number)]
 
 /* What a question is handed: an entry's cells, their number, its period and its distance. */
-#define ROW(entry) pool + headings[3 * (entry)], headings[3 * (entry) + 1], headings[3 * (entry) + 1], headings[3 * (entry) + 2]
+#define ROW(entry) pool + OF(entry, START), OF(entry, PERIOD), OF(entry, PERIOD), OF(entry, DISTANCE)
 
 int main(void)
 {
-    int64_t answer = jogipahn_convert(table, 6 * ENTRIES, headings, 3 * ENTRIES, pool, CELLS);
+    int64_t answer = jogipahn_convert(table, 6 * ENTRIES, headings, HEADING * ENTRIES, pool, CELLS);
     if (answer != 0) {
         printf("refused with %d at entry %d\n", (int)(answer / 100), (int)(answer % 100));
         return 1;
     }
-    printf("slots: period %d, distance %d:", (int)headings[10], (int)headings[11]);
-    for (uint32_t i = 0; i < headings[10]; i++) {
-        int32_t cell = pool[headings[9] + i];
+    printf("slots: period %d, distance %d, %d a period:", (int)OF(3, PERIOD), (int)OF(3, DISTANCE), (int)OF(3, SLOTS));
+    for (uint32_t i = 0; i < OF(3, PERIOD); i++) {
+        int32_t cell = pool[OF(3, START) + i];
         if (cell == INT32_MIN)
             printf(" .");
         else
@@ -56,7 +62,7 @@ int main(void)
     printf("week 2 is not made up of slots: refused with %d\n", (int)-jogipahn_down(ROW(1), ROW(3), 2, parts, 8));
 
     double openness, mean_length, mean_spacing;
-    jogipahn_figures(ROW(3), &openness, &mean_length, &mean_spacing);
+    jogipahn_figures(ROW(3), OF(3, SLOTS), &openness, &mean_length, &mean_spacing);
     printf("open %.4f, a slot every %.4f days\n", openness, mean_spacing);
     return 0;
 }

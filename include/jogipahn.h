@@ -6,7 +6,7 @@
  * distance, and answers with one number. One below zero is a refusal, its number with the sign changed:
  *
  *     -13   a row is not sound: its length is not the period, not 1 <= distance <= period <= 4,194,304, a label is outside the
- *           limits, no instant has a label, or labels fall
+ *           limits, no instant has a label, or labels fall; or the slots per period that are handed in with it are not its own
  *     -14   an argument is outside the limits: a label or an instant outside -1,000,000,000 to 1,000,000,000, or a lateness
  *           outside 0 to 1,048,576
  *     -15   z is not a label of its row
@@ -31,8 +31,9 @@ extern "C" {
 
 /* Converts a table of six numbers an entry: kind, first, second, x, y, z. 0, or 100 times the number of a refusal plus its entry (0 for
  * 1 to 3). Answered, the pool holds the least row of each entry, one behind the other, and INT32_MIN behind the last; headings holds
- * start, period and distance of each entry, and 0 behind the last. After a refusal all of the pool is INT32_MIN and all of headings 0.
- * Refusals: 1 the table's length is not 6 times 1 to 64; 2 fewer than three heading numbers for each entry; 3 a pool above 4,194,304
+ * four numbers of each entry, and 0 behind the last: start, period, distance and the slots per period of that row. One to three numbers
+ * left over are no heading and end as 0. After a refusal all of the pool is INT32_MIN and all of headings 0.
+ * Refusals: 1 the table's length is not 6 times 1 to 64; 2 fewer than four heading numbers for each entry; 3 a pool above 4,194,304
  * cells; then entry by entry 4 an unknown kind; 5 an operand that is no earlier entry; 6 a number outside its limits; 7 an operand that
  * must be full is not; 8 span or working period above the room; 9 operands not aligned; 10 a slot emptied by alter; 12 no label;
  * 11 a label outside -1,000,000,000 to 1,000,000,000. */
@@ -54,8 +55,9 @@ int64_t jogipahn_down(const int32_t *h_cells, size_t h_len, int64_t h_period, in
                       int64_t *parts, size_t parts_len);
 
 /* The part of the instants that is labelled, the mean length of a slot and the mean spacing: 0 with the three figures. They are
- * 0.0 after a refusal. Refusals: 13. */
-int64_t jogipahn_figures(const int32_t *cells, size_t len, int64_t period, int64_t distance,
+ * 0.0 after a refusal. `granules` is the row's slots per period, as a heading's fourth number has it for the row there: counted over
+ * the period that is handed in, not over the least one. Refusals: 13, also for a wrong `granules`, a negative one too. */
+int64_t jogipahn_figures(const int32_t *cells, size_t len, int64_t period, int64_t distance, int64_t granules,
                          double *openness, double *mean_length, double *mean_spacing);
 
 /* The least period of the calendar that the row means: above 0, with the number of divisors that were tried for it in *tried. These are

@@ -3,7 +3,7 @@
 
 use jogipahn_compare::core;
 use jogipahn_compare::second::questions::Row;
-use jogipahn_compare::second::EMPTY;
+use jogipahn_compare::second::{EMPTY, HEADING_NUMBERS};
 
 /// Kind, first, second, x, y, z of each entry.
 const TABLE: [[i32; 6]; 5] = [
@@ -15,20 +15,25 @@ const TABLE: [[i32; 6]; 5] = [
 ];
 
 fn main() -> Result<(), u32> {
-    let mut headings = [0; 3 * TABLE.len()];
+    let mut headings = [0; HEADING_NUMBERS * TABLE.len()];
     let mut pool = [0; 64];
     core::convert(TABLE.as_flattened(), &mut headings, &mut pool).map_err(|(number, _)| number)?;
+    let heading = |entry: usize| &headings[HEADING_NUMBERS * entry..][..HEADING_NUMBERS];
     let row = |entry: usize| {
-        let [start, period, distance] = [0, 1, 2].map(|i| headings[3 * entry + i]);
+        let (start, period) = (heading(entry)[0], heading(entry)[1]);
         Row {
             cells: &pool[start as usize..(start + period) as usize],
             period: period.into(),
-            distance: distance.into(),
+            distance: heading(entry)[2].into(),
         }
     };
     let (week, slot, working_week) = (row(1), row(3), row(4));
+    let slots: i64 = heading(3)[3].into();
 
-    print!("slots: period {}, distance {}:", slot.period, slot.distance);
+    print!(
+        "slots: period {}, distance {}, {slots} a period:",
+        slot.period, slot.distance
+    );
     for &cell in slot.cells {
         match cell {
             EMPTY => print!(" ."),
@@ -58,7 +63,7 @@ fn main() -> Result<(), u32> {
         println!("week 2 is not made up of slots: refused with {number}");
     }
 
-    let (openness, _, mean_spacing) = core::figures(slot)?;
+    let (openness, _, mean_spacing) = core::figures(slot, slots)?;
     println!("open {openness:.4}, a slot every {mean_spacing:.4} days");
     Ok(())
 }

@@ -57,6 +57,7 @@ mod questions {
             len: usize,
             period: i64,
             distance: i64,
+            granules: i64,
             openness: *mut f64,
             mean_length: *mut f64,
             mean_spacing: *mut f64,
@@ -146,7 +147,7 @@ mod questions {
         }
     }
 
-    pub fn figures(row: Row) -> Result<(f64, f64, f64), u32> {
+    pub fn figures(row: Row, slots: i64) -> Result<(f64, f64, f64), u32> {
         let (mut openness, mut mean_length, mut mean_spacing) = (f64::NAN, f64::NAN, f64::NAN);
         // SAFETY: the row's cells are borrowed, and the figures are written to
         // numbers of this function.
@@ -156,15 +157,18 @@ mod questions {
                 row.cells.len(),
                 row.period,
                 row.distance,
+                slots,
                 &mut openness,
                 &mut mean_length,
                 &mut mean_spacing,
             )
         };
-        match answer {
-            0 => Ok((openness, mean_length, mean_spacing)),
-            _ => Err(refusal(answer)),
+        if answer == 0 {
+            return Ok((openness, mean_length, mean_spacing));
         }
+        let figures = [openness, mean_length, mean_spacing].map(f64::to_bits);
+        assert_eq!(figures, [0; 3], "figures beside the answer {answer}");
+        Err(refusal(answer))
     }
 
     pub fn least_period(row: Row) -> Result<(i64, i64), u32> {

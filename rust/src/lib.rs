@@ -1,7 +1,7 @@
 //! A second, independent implementation of the calendar core, and the means to
 //! compare the proved one with it.
 //!
-//! - [`second`] is the second implementation, written from document 01 alone.
+//! - [`second`] is the second implementation, written from documents 01 and 02 alone.
 //! - [`core`] wraps the C functions of the proved core in the same signatures.
 //! - [`random`], [`tables`] and [`rows`] make random numbers, tables, and rows with
 //!   questions to them, all from a seed.

@@ -5,6 +5,18 @@ use crate::second::questions::{Allowance, Row};
 use crate::second::{CELL_LIMIT, EMPTY, LABEL_LIMIT};
 use crate::tables::answered;
 
+/// How many labels a turn has, two being one where they lie a multiple of the
+/// distance apart. A distance below 1 is taken for 1.
+pub fn labels_per_turn(cells: &[i32], distance: i64) -> i64 {
+    let labels = cells.iter().filter(|&&cell| cell != EMPTY);
+    let mut labels: Vec<i64> = labels
+        .map(|&label| i64::from(label).rem_euclid(distance.max(1)))
+        .collect();
+    labels.sort();
+    labels.dedup();
+    labels.len() as i64
+}
+
 /// A row with cells of its own.
 #[derive(Clone, Debug)]
 pub struct OwnRow {
@@ -20,6 +32,11 @@ impl OwnRow {
             period: self.period,
             distance: self.distance,
         }
+    }
+
+    /// R, counted over the row's own period.
+    pub fn slots(&self) -> i64 {
+        labels_per_turn(&self.cells, self.distance)
     }
 
     fn labelled(&self) -> Vec<usize> {
@@ -161,8 +178,14 @@ fn raise(row: &mut OwnRow, open: &[usize], rise: i32) {
     open.iter().for_each(|&place| row.cells[place] += rise);
 }
 
+/// Whether a row can be written out so many times and keep the limit of labels.
+pub fn can_unroll(row: &OwnRow, times: i64) -> bool {
+    let highest = row.cells.iter().max().map_or(0, |&cell| i64::from(cell));
+    highest + times * row.distance <= LABEL_LIMIT.into()
+}
+
 /// Writes a row out over several periods.
-fn unrolled(row: &OwnRow, times: i64) -> OwnRow {
+pub fn unrolled(row: &OwnRow, times: i64) -> OwnRow {
     let mut cells = Vec::new();
     for turn in 0..times {
         let risen = (turn * row.distance) as i32;
@@ -200,10 +223,7 @@ pub fn whole_rows(random: &mut Random, long: bool) -> Vec<OwnRow> {
     for _ in 0..2 {
         let row = &rows[random.below(rows.len())];
         let times = random.range(2, 4);
-        let highest = row.cells.iter().max().map_or(0, |&cell| i64::from(cell));
-        if times * row.period <= longest as i64
-            && highest + times * row.distance <= LABEL_LIMIT.into()
-        {
+        if times * row.period <= longest as i64 && can_unroll(row, times) {
             rows.push(unrolled(row, times));
         }
     }
@@ -219,12 +239,27 @@ pub enum Question {
     UpGranule(i64),
     /// Down from a slot of the first row to the second, with a list so long.
     Down(i64, usize),
-    /// The figures of the first row.
-    Figures,
+    /// The figures of the first row, with so many slots per period.
+    Figures(i64),
     /// The least period of the first row.
     LeastPeriod,
     /// Whether a delivery may be so late on a slot of the first row.
     MayBeLate(i64, i64, Allowance),
+}
+
+/// What may be handed in as the slots per period of a row that has so many, by
+/// name: the first is right, all others are wrong.
+pub fn slots_given(slots: i64) -> [(&'static str, i64); 8] {
+    [
+        ("right", slots),
+        ("one more", slots + 1),
+        ("one less", slots - 1),
+        ("of two turns", 2 * slots),
+        ("negative", -slots),
+        ("zero", 0),
+        ("the least number", i64::MIN),
+        ("the greatest number", i64::MAX),
+    ]
 }
 
 /// A random question that suits the first row.
@@ -246,7 +281,11 @@ pub fn question(random: &mut Random, first: &OwnRow) -> Question {
             };
             Question::Down(label(random, first), most)
         }
-        9 => Question::Figures,
+        9 => Question::Figures(match random.below(8) {
+            0 => random.any_i64(),
+            1 => random.choose(&[first.distance, first.period]),
+            _ => first.slots(),
+        }),
         10 => Question::LeastPeriod,
         _ => {
             let late = match random.below(12) {

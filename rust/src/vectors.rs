@@ -8,7 +8,7 @@ use crate::tables::{case_within, Case};
 
 /// The longest pool and the most heading numbers that a vector lends.
 const POOL: usize = 64;
-const HEADINGS: usize = 96;
+const HEADINGS: usize = 32 * HEADING_NUMBERS;
 
 /// Each kind is answered, and each refusal but 3, whose pool is too long to
 /// store, is given, at least so many times.
@@ -61,7 +61,7 @@ fn convert(case: &Case) -> Converted {
 }
 
 /// What the program prints: for each table a line with its number, and then
-/// its refusal or a line for each row, period, distance and cells.
+/// its refusal or a line for each row: period, distance, slots and cells.
 pub fn printed(cases: &[Case]) -> String {
     let mut text = String::new();
     for (number, case) in cases.iter().enumerate() {
@@ -72,10 +72,10 @@ pub fn printed(cases: &[Case]) -> String {
             Ok(()) => {
                 let entries = case.table.len() / ENTRY_NUMBERS;
                 for heading in headings.chunks_exact(HEADING_NUMBERS).take(entries) {
-                    let &[start, period, distance] = heading else {
+                    let &[start, period, distance, slots] = heading else {
                         unreachable!()
                     };
-                    write!(text, "{period} {distance}").unwrap();
+                    write!(text, "{period} {distance} {slots}").unwrap();
                     for &cell in &pool[start as usize..(start + period) as usize] {
                         if cell == EMPTY {
                             text.push_str(" .");

@@ -1,4 +1,4 @@
-//! The second implementation against document 01's words taken one by one.
+//! The second implementation against the documents' words taken one by one.
 //!
 //! Everything here is as slow and as literal as can be: a slot is a list of
 //! instants, "inside" is asked for each of them, the least period is the first
@@ -11,6 +11,9 @@
 use jogipahn_compare::random::Random;
 use jogipahn_compare::second::{convert, EMPTY};
 use jogipahn_compare::tables::{case_within, Case};
+
+/// "Each heading gets a fourth number."
+const HEADING_NUMBERS: usize = 4;
 
 /// How far anything is counted.
 const PATIENCE: i64 = 3000;
@@ -41,6 +44,11 @@ impl Calendar {
 
     fn is_full(&self) -> bool {
         (0..self.distance).all(|label| self.has(label))
+    }
+
+    /// The labels among N whole numbers in a row.
+    fn slots_per_period(&self) -> usize {
+        (0..self.distance).filter(|&label| self.has(label)).count()
     }
 }
 
@@ -355,7 +363,7 @@ fn conversion(case: &Case) -> Result<Lists, Option<(u32, u32)>> {
     if !case.table.len().is_multiple_of(6) || entries < 1 || entries > 64 {
         return Err(Some((1, 0)));
     }
-    if case.headings / 3 < entries {
+    if case.headings / HEADING_NUMBERS < entries {
         return Err(Some((2, 0)));
     }
     if case.pool > 4_194_304 {
@@ -368,11 +376,13 @@ fn conversion(case: &Case) -> Result<Lists, Option<(u32, u32)>> {
         let room = (case.pool - pool.len()) as i64;
         match entry(numbers, &calendars, room) {
             Ok(calendar) => {
-                headings.extend([
+                let heading: [u32; HEADING_NUMBERS] = [
                     pool.len() as u32,
                     calendar.period as u32,
                     calendar.distance as u32,
-                ]);
+                    calendar.slots_per_period() as u32,
+                ];
+                headings.extend(heading);
                 pool.extend(
                     calendar
                         .labels

@@ -1,11 +1,14 @@
-//! The second implementation's answers against document 01's words taken one
+//! The second implementation's answers against the documents' words taken one
 //! by one, for short rows.
 
 // The limits stand here as in the paper.
 #![allow(clippy::manual_range_contains)]
 
 use jogipahn_compare::random::Random;
-use jogipahn_compare::rows::{damage, question, whole_row, whole_rows, OwnRow, Question, DAMAGES};
+use jogipahn_compare::rows::{
+    can_unroll, damage, question, slots_given, unrolled, whole_row, whole_rows, OwnRow, Question,
+    DAMAGES,
+};
 use jogipahn_compare::second::questions::{self, Allowance};
 use jogipahn_compare::second::EMPTY;
 
@@ -159,8 +162,9 @@ fn least_period(row: &OwnRow) -> Result<(i64, i64), u32> {
     Ok((least, tried as i64))
 }
 
-fn figures(row: &OwnRow) -> Result<(f64, f64, f64), u32> {
+fn figures(row: &OwnRow, slots_given: i64) -> Result<(f64, f64, f64), u32> {
     test_row(row)?;
+    refuse_if(slots_given != slots(row), 13)?;
     let open = row.cells.iter().filter(|&&cell| cell != EMPTY).count() as f64;
     let slots = slots(row) as f64;
     let period = row.period as f64;
@@ -237,9 +241,9 @@ fn compare(question: &Question, first: &OwnRow, second: &OwnRow) -> Option<u32> 
             assert_eq!(list, expected_list, "{question:?} {first:?} {second:?}");
             answer.err()
         }
-        Question::Figures => {
-            let answer = questions::figures(one);
-            assert_eq!(answer, figures(first), "{first:?}");
+        Question::Figures(slots) => {
+            let answer = questions::figures(one, slots);
+            assert_eq!(answer, figures(first, slots), "{slots} {first:?}");
             answer.err()
         }
         Question::LeastPeriod => {
@@ -257,6 +261,34 @@ fn compare(question: &Question, first: &OwnRow, second: &OwnRow) -> Option<u32> 
             answer.err()
         }
     }
+}
+
+#[test]
+fn figures_are_given_for_the_right_slots_only() {
+    let mut longer_rows = 0;
+    for seed in 0..5_000 {
+        let mut random = Random::new(0x5107_0000 + seed);
+        let row = whole_row(&mut random, 40);
+        let mut rows = vec![(row.slots(), row.clone())];
+        if can_unroll(&row, 2) {
+            rows.push((row.slots(), unrolled(&row, 2)));
+            longer_rows += 1;
+        }
+        for (slots_before, row) in rows {
+            assert_eq!(row.slots(), slots(&row), "{row:?}");
+            for (name, given) in slots_given(row.slots()) {
+                let answer = questions::figures(row.row(), given);
+                assert_eq!(answer, figures(&row, given), "{name}: {row:?}");
+                assert_eq!(answer.is_ok(), name == "right", "{name}: {row:?}");
+            }
+            // What was right before the row was written out twice.
+            let answer = questions::figures(row.row(), slots_before);
+            assert_eq!(answer, figures(&row, slots_before), "{row:?}");
+            assert_eq!(answer.is_ok(), slots_before == row.slots(), "{row:?}");
+        }
+    }
+    println!("{longer_rows} rows written out twice");
+    assert!(longer_rows >= 1_000, "{longer_rows}");
 }
 
 #[test]

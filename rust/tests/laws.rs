@@ -3,11 +3,11 @@
 use std::collections::BTreeMap;
 
 use jogipahn_compare::random::Random;
-use jogipahn_compare::second::{convert, ENTRY_LIMIT, ENTRY_NUMBERS};
+use jogipahn_compare::second::{convert, ENTRY_LIMIT, ENTRY_NUMBERS, HEADING_NUMBERS};
 use jogipahn_compare::tables::{answered, Answered};
 
-/// Period, distance and cells.
-type Row = (u32, u32, Vec<i32>);
+/// Period, distance and slots, and the cells.
+type Row = ([u32; 3], Vec<i32>);
 
 /// One side of a law: the operands' table and what is added to it.
 struct Side {
@@ -44,12 +44,15 @@ impl Side {
     }
 
     fn row(&self) -> Result<Row, u32> {
-        let mut headings = vec![0; 3 * ENTRY_LIMIT];
+        let mut headings = vec![0; HEADING_NUMBERS * ENTRY_LIMIT];
         let mut pool = vec![0; 20_000];
         convert(&self.table, &mut headings, &mut pool).map_err(|(number, _)| number)?;
-        let heading = &headings[3 * self.result as usize..][..3];
-        let cells = &pool[heading[0] as usize..][..heading[1] as usize];
-        Ok((heading[1], heading[2], cells.to_vec()))
+        let heading = &headings[HEADING_NUMBERS * self.result as usize..];
+        let &[start, period, distance, slots] = &heading[..HEADING_NUMBERS] else {
+            unreachable!()
+        };
+        let cells = &pool[start as usize..][..period as usize];
+        Ok(([period, distance, slots], cells.to_vec()))
     }
 }
 

@@ -3,7 +3,7 @@
 
 use jogipahn_compare::core;
 use jogipahn_compare::second::questions::{self, Allowance, Row};
-use jogipahn_compare::second::{self, EMPTY};
+use jogipahn_compare::second::{self, EMPTY, HEADING_NUMBERS};
 
 /// The longest pool and the longest row.
 const CELLS: usize = 4_194_304;
@@ -17,7 +17,7 @@ fn group(first: i32, x: i32) -> [i32; 6] {
 /// Converts by both into dirty lists; what both leave.
 fn converted(entries: &[[i32; 6]], pool: usize) -> (Result<(), (u32, u32)>, Vec<u32>, Vec<i32>) {
     let table = entries.concat();
-    let mut headings = vec![7; 3 * entries.len()];
+    let mut headings = vec![7; HEADING_NUMBERS * entries.len()];
     let mut cells = vec![7; pool];
     let answer = core::convert(&table, &mut headings, &mut cells);
     let mut expected_headings = vec![8; headings.len()];
@@ -29,13 +29,17 @@ fn converted(entries: &[[i32; 6]], pool: usize) -> (Result<(), (u32, u32)>, Vec<
     (answer, headings, cells)
 }
 
+fn heading(headings: &[u32], entry: usize) -> &[u32] {
+    &headings[HEADING_NUMBERS * entry..][..HEADING_NUMBERS]
+}
+
 #[test]
 fn a_grouped_row_fills_the_pool() {
     // 1 + 2,049 + 2,049 * 2,046 cells are all there are.
     let table = [BOTTOM, group(0, 2049), group(1, 2046)];
     let (answer, headings, pool) = converted(&table, CELLS);
     assert_eq!(answer, Ok(()));
-    assert_eq!(headings[6..], [2050, 4_192_254, 1]);
+    assert_eq!(heading(&headings, 2), [2050, 4_192_254, 1, 1]);
     assert_eq!(pool[CELLS - 1], 1);
     assert_eq!(converted(&table, CELLS - 1).0, Err((8, 2)));
 }
@@ -46,7 +50,7 @@ fn an_altered_row_fills_the_pool() {
     let table = [BOTTOM, group(0, 2049), [3, 0, 1, 2000, 1, 94_254]];
     let (answer, headings, _) = converted(&table, CELLS);
     assert_eq!(answer, Ok(()));
-    assert_eq!(headings[6..], [2050, 4_192_254, 2000]);
+    assert_eq!(heading(&headings, 2), [2050, 4_192_254, 2000, 2000]);
     assert_eq!(converted(&table, CELLS - 1).0, Err((8, 2)));
 }
 
@@ -69,7 +73,8 @@ fn each_kind_fills_the_pool() {
         let table = [&long[..], &[kind]].concat();
         let (answer, headings, pool) = converted(&table, CELLS);
         assert_eq!(answer, Ok(()), "{kind:?}");
-        assert_eq!(headings[9..], [2_098_177, 2_096_127, 1], "{kind:?}");
+        let expected = [2_098_177, 2_096_127, 1, 1];
+        assert_eq!(heading(&headings, 3), expected, "{kind:?}");
         assert!(pool[CELLS - 1] != EMPTY, "{kind:?}");
         assert_eq!(converted(&table, CELLS - 1).0, Err((8, 3)), "{kind:?}");
     }
@@ -129,7 +134,8 @@ fn questions_take_the_longest_row() {
             core::up_granule(row, row, 9),
             questions::up_granule(row, row, 9)
         );
-        assert_eq!(core::figures(row), questions::figures(row));
+        assert_eq!(core::figures(row, 1), questions::figures(row, 1));
+        assert_eq!(core::figures(row, 2), Err(13));
         assert_eq!(
             core::may_be_late(row, 9, 1_048_576, rule),
             questions::may_be_late(row, 9, 1_048_576, rule)

@@ -4,7 +4,10 @@ use std::collections::BTreeMap;
 
 use jogipahn_compare::core;
 use jogipahn_compare::random::Random;
-use jogipahn_compare::rows::{damage, question, whole_rows, OwnRow, Question, DAMAGES};
+use jogipahn_compare::rows::{
+    can_unroll, damage, question, slots_given, unrolled, whole_row, whole_rows, OwnRow, Question,
+    DAMAGES,
+};
 use jogipahn_compare::second::questions as second;
 
 /// At least so many questions are put to both.
@@ -82,6 +85,50 @@ fn questions_are_answered_alike() {
     }
 }
 
+/// Asks both for the figures of a row with so many slots per period.
+fn compare_figures(row: &OwnRow, slots: i64) -> Result<(f64, f64, f64), u32> {
+    let bits = |figures: Result<(f64, f64, f64), u32>| {
+        figures.map(|(a, b, c)| [a.to_bits(), b.to_bits(), c.to_bits()])
+    };
+    let answer = core::figures(row.row(), slots);
+    let expected = second::figures(row.row(), slots);
+    assert_eq!(bits(answer), bits(expected), "{slots} {row:?}");
+    answer
+}
+
+#[test]
+fn figures_are_given_for_the_right_slots_only() {
+    let mut counts: BTreeMap<(&str, &str), u64> = BTreeMap::new();
+    for seed in 0..5_000 {
+        let mut random = Random::new(0xF16_0000 + seed);
+        let longest = if seed % 500 == 0 { 1 << 21 } else { 60 };
+        let row = whole_row(&mut random, longest);
+        let mut rows = vec![("a row", row.slots(), row.clone())];
+        if can_unroll(&row, 2) {
+            rows.push(("a row twice", row.slots(), unrolled(&row, 2)));
+        }
+        for (what, slots_before, row) in rows {
+            let mut ask = |name: &'static str, slots: i64| {
+                let answer = compare_figures(&row, slots);
+                let right = slots == row.slots();
+                assert_eq!(answer.err(), (!right).then_some(13), "{name}: {row:?}");
+                *counts.entry((what, name)).or_default() += 1;
+            };
+            for (name, slots) in slots_given(row.slots()) {
+                ask(name, slots);
+            }
+            if slots_before != row.slots() {
+                ask("of one turn of the two", slots_before);
+            }
+        }
+    }
+    for ((what, name), count) in &counts {
+        println!("figures of {what}, slots {name}: {count}");
+    }
+    assert_eq!(counts.len(), 17);
+    assert!(counts.values().all(|&count| count >= 1_000));
+}
+
 /// Damages a row, if it can be done, puts a question to it, and says what came
 /// of it.
 fn compare_damaged(random: &mut Random, rows: &[OwnRow]) -> Option<String> {
@@ -155,15 +202,11 @@ fn compare(question: &Question, first: &OwnRow, other: &OwnRow) -> String {
             };
             told("down", &answer)
         }
-        Question::Figures => {
-            let expected = second::figures(one);
-            let bits = |figures: Result<(f64, f64, f64), u32>| {
-                figures.map(|(a, b, c)| [a.to_bits(), b.to_bits(), c.to_bits()])
-            };
-            assert_eq!(bits(core::figures(one)), bits(expected), "{first:?}");
+        Question::Figures(slots) => {
+            let answer = compare_figures(first, slots);
             told(
                 "figures",
-                &expected.map_or_else(refused, |_| "three".to_owned()),
+                &answer.map_or_else(refused, |_| "three".to_owned()),
             )
         }
         Question::LeastPeriod => {

@@ -1,4 +1,4 @@
--- The limits that document 01 sets, each with the sentence it stands in; two are raised by document 02, Req 06.
+-- The limits that document 01 sets, each with the sentence it stands in; two are raised by document 02, Req 06, one by Req 07.
 use mathlib.Core.Bool.{Bool, _&&_}
 use Prim.Native.Nat.{ℕ}
 use lib.IntN.{ℤ, pos, negℤ}
@@ -12,9 +12,9 @@ poolLimit = 4194304
 abbrev pub entryLimit : ℕ
 entryLimit = 64
 
--- "one record for each entry: start, period, distance .. Plain numbers, three a heading"
+-- "one record for each entry: start, period, distance", and "Each heading gets a fourth number": so many plain numbers a heading
 abbrev pub headingLength : ℕ
-headingLength = 3
+headingLength = 4
 
 -- "lateness outside 0 to 1,048,576"
 abbrev pub lateLimit : ℕ

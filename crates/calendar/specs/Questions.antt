@@ -1,25 +1,30 @@
 -- Questions to a row that was handed in (document 01, "Questions to a row"), as definitions that compute. The order of refusals:
 -- "13 for each row in argument order, then 14, 18, 15, 16, 17".
 use mathlib.Core.Option.{Option, none, some}
-use mathlib.Core.Bool.{Bool, cond}
+use mathlib.Core.Bool.{Bool, cond, _&&_}
 use mathlib.Core.List.{List}
 use Prim.Native.Nat.{ℕ}
 use lib.Dec.{leb}
-use lib.IntN.{ℤ}
+use lib.IntN.{ℤ, pos}
 use lib.Signed.{leZ}
 use lib.ListN.{length}
 use Rattle.integers.specs.Parts.{up}
 use Rattle.calendar.specs.Meaning.{Row, meant}
 use Rattle.calendar.specs.Reply.{Reply, require}
 use Rattle.calendar.specs.Reply.Reply.{answer}
-use Rattle.calendar.specs.Lists.{any, all, keep, first, is}
-use Rattle.calendar.specs.Granules.{has, granule, inside, within}
+use Rattle.calendar.specs.Lists.{any, all, keep, first, is, equal}
+use Rattle.calendar.specs.Granules.{has, granule, inside, within, granules}
 use Rattle.calendar.specs.Limits.{inRange}
 use Rattle.calendar.specs.Sound.{labelsOf, sound}
 
 -- a row as a caller hands it in, with any numbers: one below zero is as good as 0, which rule 13 refuses
 abbrev pub given : ℤ → ℤ → List ℤ → Row
 given period distance cells = record { period = up period; distance = up distance; cells = cells }
+
+-- "Where a row is handed in together with its R, counted over that row's own P, a wrong R is refusal 13." (document 02, Req 07)
+unfoldable pub soundWith : Row → ℤ → Bool
+unfolding sound granules
+soundWith r n = sound r && equal n (pos (granules r))
 
 -- ---- up
 

@@ -130,8 +130,8 @@ cases =
     ∷ case (rowOf (businessDays ++ entry 11 2 2 (pos 0) 0 (pos 0)) 3) (refusal 12 3)
     -- 12. the lists left by W's table with a pool of 10; a pool of 8, and one of 7
     ∷ case
-    (listsLeft weeks 6 10)
-    (lists (0 ∷ 1 ∷ 1 ∷ 1 ∷ 7 ∷ 1 ∷ []) (labels (0 ∷ 0 ∷ 1 ∷ 1 ∷ 1 ∷ 1 ∷ 1 ∷ 1 ∷ []) ++ (empty ∷ empty ∷ [])))
-    ∷ case (listsLeft weeks 6 8) (lists (0 ∷ 1 ∷ 1 ∷ 1 ∷ 7 ∷ 1 ∷ []) (labels (0 ∷ 0 ∷ 1 ∷ 1 ∷ 1 ∷ 1 ∷ 1 ∷ 1 ∷ [])))
+    (listsLeft weeks 8 10)
+    (lists (0 ∷ 1 ∷ 1 ∷ 1 ∷ 1 ∷ 7 ∷ 1 ∷ 1 ∷ []) (labels (0 ∷ 0 ∷ 1 ∷ 1 ∷ 1 ∷ 1 ∷ 1 ∷ 1 ∷ []) ++ (empty ∷ empty ∷ [])))
+    ∷ case (listsLeft weeks 8 8) (lists (0 ∷ 1 ∷ 1 ∷ 1 ∷ 1 ∷ 7 ∷ 1 ∷ 1 ∷ []) (labels (0 ∷ 0 ∷ 1 ∷ 1 ∷ 1 ∷ 1 ∷ 1 ∷ 1 ∷ [])))
     ∷ case (rowIn weeks 7 1) (refusal 8 1)
     ∷ []

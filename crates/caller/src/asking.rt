@@ -119,10 +119,10 @@ fn ask_parts(pool: &[i32], weeks: Heading, slots: Heading, working_weeks: Headin
     ask_down(pool, working_weeks, slots, 2, &mut short);
 }
 
-// The figures of a row; of the slots the mean spacing is 7 days by 5 slots.
-fn ask_figures(pool: &[i32], row: Heading, period: i64) {
+// The figures of a row with its slots per period; of the slots the mean spacing is 7 days by 5 slots.
+fn ask_figures(pool: &[i32], row: Heading, period: i64, granules: i64) {
     print(b"mean spacing of slots: ");
-    let figured = jogipahn::figures(row_of(pool, row), period, row.distance as i64);
+    let figured = jogipahn::figures(granules, row_of(pool, row), period, row.distance as i64);
     match figured {
         Figured::Are(v) => {
             if v.mean_spacing == 1.4 && v.mean_length == 1.0 && v.openness < 0.8 {
@@ -180,8 +180,9 @@ pub fn ask(pool: &[i32], weeks: Heading, slots: Heading, working_weeks: Heading)
     ask_up_granule(pool, slots, weeks, 6);
     ask_up_granule(pool, slots, slots, Calendar::LEAST_LABEL - 1);
     ask_parts(pool, weeks, slots, working_weeks);
-    ask_figures(pool, slots, 7);
-    ask_figures(pool, slots, 8);
+    ask_figures(pool, slots, 7, slots.granules as i64);
+    ask_figures(pool, slots, 8, slots.granules as i64);
+    ask_figures(pool, slots, 7, 6);
     ask_least_period(pool, slots, 7);
     ask_least_period(pool, slots, 8);
     ask_may_be_late(pool, weeks, 2, 3, Allowance::Share(0.5));

@@ -17,6 +17,9 @@ mod asking;
 
 const ENTRIES: usize = 5;
 
+// How many plain numbers a heading has: start, period, distance and slots per period.
+const HEADING: usize = 4;
+
 // The first calendar of README.md: days; weeks; the first 5 days of each week; these numbered from 1, the slots; 5 slots
 // each, the working weeks.
 const TABLE: [i32; 30] = [
@@ -93,6 +96,8 @@ fn print_heading(row: Heading, pool: &[i32]) {
     print_number(row.period as i64);
     print(b", distance ");
     print_number(row.distance as i64);
+    print(b", slots ");
+    print_number(row.granules as i64);
     print(b":");
     print_turn(asking::row_of(pool, row), row.period as usize, 0, 0);
     print(b"\n");
@@ -104,6 +109,7 @@ fn with_records(table: &[i32], unknown: &[i32], pool: &mut [i32]) {
         start: 9,
         period: 9,
         distance: 9,
+        granules: 9,
     }; ENTRIES];
     let done = convert_records(table, headings, &mut *pool);
     let answer = done.answer;
@@ -118,18 +124,20 @@ fn with_records(table: &[i32], unknown: &[i32], pool: &mut [i32]) {
     print_heading(zeros[0], &*pool);
 }
 
-fn print_distance(distance: u32) {
+fn print_numbers(distance: u32, granules: u32) {
     print(b"distance ");
     print_number(distance as i64);
+    print(b", slots ");
+    print_number(granules as i64);
     print(b"\n");
 }
 
 // Converts with plain numbers: the table, and for one number too few.
 fn with_numbers(table: &[i32], pool: &mut [i32]) {
-    let mut numbers = [1u32; 15];
+    let mut numbers = [1u32; HEADING * ENTRIES];
     print_conversion(jogipahn::convert_plain(table, &mut numbers, &mut *pool));
-    print_distance(numbers[11]);
-    let mut few = [1u32; 14];
+    print_numbers(numbers[HEADING * 3 + 2], numbers[HEADING * 3 + 3]);
+    let mut few = [1u32; HEADING * ENTRIES - 1];
     print_conversion(jogipahn::convert_plain(table, &mut few, &mut *pool));
 }
 

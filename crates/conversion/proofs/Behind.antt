@@ -12,6 +12,7 @@ use lib.Seq.{take-at, drop-at, drop-drop}
 use Rattle.calendar.specs.Meaning.{Row}
 use Rattle.calendar.specs.Operation.{Operation}
 use Rattle.calendar.specs.Sound.{sound}
+use Rattle.calendar.specs.Granules.{granules}
 use Rattle.calendar.specs.Limits.{poolLimit, headingLength}
 use Rattle.calendar.specs.declared.Refusal.{Refusal}
 use Rattle.calendar.specs.Refusals.{numberOf}
@@ -37,9 +38,9 @@ joined-behind : (l : List Row) (r : Row) → joined (l ++ (r ∷ [])) ≡ joined
 joined-behind [] r = append-nil (r .cells)
 joined-behind (s ∷ l) r = ap (λ (c : List ℤ). s .cells ++ c) (joined-behind l r) ∙ sym (append-assoc (s .cells) (joined l) (r .cells))
 
--- three numbers and what is behind them
+-- a heading and what is behind it
 abbrev headed : ℕ → Row → List ℕ → List ℕ
-headed s r n = s ∷ r .period ∷ r .distance ∷ n
+headed s r n = s ∷ r .period ∷ r .distance ∷ granules r ∷ n
 
 headings-behind : (l : List Row) (r : Row) (s : ℕ) → ((r : Row) → List·Memᴰ r l → sound r ≡ true)
     → headingsFrom s (l ++ (r ∷ [])) ≡ headingsFrom s l ++ headed (s + length (joined l)) r []
@@ -73,25 +74,25 @@ module _ (l : List Row) (k used e : ℕ) (numbers headings : List ℕ) (before p
   old-is : take (headingLength * k) numbers ≡ old
   old-is = ap (take (headingLength * k)) (s .numbers) ∙ take-at old (replicate left 0) (headingLength * k) old-length
 
-  rest-is : drop (headingLength * k + headingLength) numbers ≡ replicate (left - 3) 0
+  rest-is : drop (headingLength * k + headingLength) numbers ≡ replicate (left - headingLength) 0
   rest-is =
-      sym (drop-drop 3 (headingLength * k) numbers) ∙ ap (drop 3) (ap (drop (headingLength * k)) (s .numbers) ∙ drop-at old (replicate left 0) (headingLength * k) old-length) ∙ drop-alike 0 left 3
+      sym (drop-drop headingLength (headingLength * k) numbers) ∙ ap (drop headingLength) (ap (drop (headingLength * k)) (s .numbers) ∙ drop-at old (replicate left 0) (headingLength * k) old-length) ∙ drop-alike 0 left headingLength
 
-  written : headings ≡ old ++ headed used r (replicate (left - 3) 0)
+  written : headings ≡ old ++ headed used r (replicate (left - headingLength) 0)
   written = a .heading ∙ ap₂ (λ (o n : List ℕ). o ++ headed used r n) old-is rest-is
 
   new-is : new ≡ old ++ headed used r []
   new-is = headings-behind l r 0 (s .all-sound) ∙ ap (λ (n : ℕ). old ++ headed n r []) (omega arith)
 
-  zeros : left - 3 ≡ length headings - length new
+  zeros : left - headingLength ≡ length headings - length new
   zeros =
-      let h = ap length written ∙ length-append old (headed used r (replicate (left - 3) 0)) in
+      let h = ap length written ∙ length-append old (headed used r (replicate (left - headingLength) 0)) in
       let n = ap length new-is ∙ length-append old (headed used r []) in
-      omega (arith, length-replicate {A = ℕ} (left - 3) 0)
+      omega (arith, length-replicate {A = ℕ} (left - headingLength) 0)
 
   numbers-are : headings ≡ filled (length headings) 0 new
   numbers-are =
-      written ∙ sym (append-assoc old (headed used r []) (replicate (left - 3) 0)) ∙ ap₂ (λ (o : List ℕ) (n : ℕ). o ++ replicate n 0) (sym new-is) zeros
+      written ∙ sym (append-assoc old (headed used r []) (replicate (left - headingLength) 0)) ∙ ap₂ (λ (o : List ℕ) (n : ℕ). o ++ replicate n 0) (sym new-is) zeros
 
   -- the cells
   abbrev cells : List ℤ

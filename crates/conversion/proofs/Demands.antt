@@ -1,6 +1,6 @@
 -- Demands 2 and 3 on what `convert` leaves in its lists, from its contract alone: of any table, lists of any lengths and any former content.
 -- Assumes nothing.
-use mathlib.Core.Path.{_≡_, refl, ap}
+use mathlib.Core.Path.{_≡_, refl, sym, _∙_, ap}
 use mathlib.Core.Logic.{_↔_}
 use mathlib.Core.List.{List}
 use Prim.Native.Nat.{ℕ, _/_, _<_}
@@ -9,6 +9,7 @@ use lib.IntN.{ℤ}
 use lib.ListN.{length, getD}
 use Rattle.calendar.specs.Limits.{headingLength}
 use Rattle.calendar.specs.Meaning.{Row, Calendar, Same}
+use Rattle.calendar.specs.Granules.{granules}
 use Rattle.calendar.specs.Outcome.{Outcome, outcome}
 use Rattle.calendar.specs.Outcome.Outcome.{rows}
 use Rattle.calendar.specs.Stored.{poolAfter, headingsAfter}
@@ -24,11 +25,11 @@ use Rattle.laws.specs.Matches.{Matches, calendarAt}
 use Rattle.laws.specs.Answered.{Answered}
 use Rattle.laws.proofs.Demand3 as laws
 use Rattle.conversion.specs.Answers.{answered}
-use Rattle.conversion.specs.Shows.{Shows}
+use Rattle.conversion.specs.Shows.{granulesAt, ShowsRows, Shows}
 use Rattle.conversion.specs.Left.{Left, ConvertedTable, rowOf}
 use Rattle.conversion.specs.declared.Conversion.{Conversion}
 use Rattle.conversion.specs.declared.Conversion.the-variants.{Converted}
-use Rattle.conversion.proofs.LeftRows.{means-length, shows-refusal, shows-rows}
+use Rattle.conversion.proofs.LeftRows.{means-length, labels-counted, shows-refusal, shows-rows}
 
 -- ---- demand 2
 
@@ -65,18 +66,29 @@ converted-means t h p headings pool left =
     by (refusedAt n k) m s = let z : _≡_ {A = ℕ} 0 1 = cc (s .answer) in absurd (omega arith)
     by (means ms) m s = (ms, m, means-length m .0)
 
-represented : (x : ConvertedTable) (k : ℕ) → k < length (x .meanings) → Represents (getD (x .meanings) k nothing) (rowOf x k)
-represented x =
-    demand-2-only (x .table) (x .h) (x .p) Converted (x .headings) (x .pool) (x .left) (means (x .meanings)) (x .means) .rows
+-- its lists show that
+shown : (x : ConvertedTable) → ShowsRows (x .meanings) (x .h) (x .p) Converted (x .headings) (x .pool)
+shown x = demand-2-only (x .table) (x .h) (x .p) Converted (x .headings) (x .pool) (x .left) (means (x .meanings)) (x .means)
 
--- two answered entries, of one table or of two, mean the same calendar exactly if their rows are equal: period, distance and cells
+represented : (x : ConvertedTable) (k : ℕ) → k < length (x .meanings) → Represents (getD (x .meanings) k nothing) (rowOf x k)
+represented x = shown x .rows
+
+-- the fourth number of a heading is R of its row
+counted : (x : ConvertedTable) (k : ℕ) → k < length (x .meanings) → granulesAt (x .headings) k ≡ granules (rowOf x k)
+counted x k h = labels-counted (getD (x .meanings) k nothing) (rowOf x k) (represented x k h) (granulesAt (x .headings) k) (shown x .granules k h)
+
+-- two answered entries, of one table or of two, mean the same calendar exactly if their rows are equal: period, distance, cells and the fourth
+-- number
 pub demand-3 : (x y : ConvertedTable) (k l : ℕ) → k < length (x .meanings) → l < length (y .meanings)
-    → Same (calendarAt (x .meanings) k) (calendarAt (y .meanings) l) ↔ (rowOf x k ≡ rowOf y l)
+    → Same (calendarAt (x .meanings) k) (calendarAt (y .meanings) l)
+    ↔ ((rowOf x k ≡ rowOf y l) × (granulesAt (x .headings) k ≡ granulesAt (y .headings) l))
 demand-3 x y k l h h′ =
     let r = represented x k h in
     let e = equal-rows (calendarAt (x .meanings) k) (calendarAt (y .meanings) l) (rowOf x k) (rowOf y l) (r .calendar) (r .least) (represented y l h′ .least) in (
-      λ same. let (p, n, q) = e .0 same in row-ext (rowOf x k) (rowOf y l) p n q,
-      λ same. e .1 (ap (λ (r : Row). r .period) same, ap (λ (r : Row). r .distance) same, ap (λ (r : Row). r .cells) same),
+      λ same. let (p, n, q) = e .0 same in
+          let alike = row-ext (rowOf x k) (rowOf y l) p n q in
+          (alike, counted x k h ∙ ap granules alike ∙ sym (counted y l h′)),
+      λ (same, count). e .1 (ap (λ (r : Row). r .period) same, ap (λ (r : Row). r .distance) same, ap (λ (r : Row). r .cells) same),
     )
 
 -- the same table over the definitions, with the rows that are stored
@@ -98,10 +110,11 @@ defined x = record {
   stores = stored x .1;
 }
 
--- entries that match the two sides of a law have equal rows
+-- entries that match the two sides of a law have equal rows: period, distance, cells and the fourth number
 pub demand-3-laws : (x y : ConvertedTable) (k l : ℕ) → k < length (x .meanings) → l < length (y .meanings)
     → (s s′ : Term) → Law s s′ → (v : ℕ → Calendar)
-    → Matches (x .table) (x .meanings) v s k → Matches (y .table) (y .meanings) v s′ l → rowOf x k ≡ rowOf y l
+    → Matches (x .table) (x .meanings) v s k → Matches (y .table) (y .meanings) v s′ l
+    → (rowOf x k ≡ rowOf y l) × (granulesAt (x .headings) k ≡ granulesAt (y .headings) l)
 demand-3-laws x y k l h h′ s s′ law v m m′ =
     demand-3 x y k l h h′ .0
     (laws.demand-3-rows (defined x) (defined y) k l h h′ .1 (laws.demand-3-laws (defined x) (defined y) k l h h′ s s′ law v m m′))

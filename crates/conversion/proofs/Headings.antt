@@ -9,10 +9,12 @@ use lib.ListN.{length, getD, take, replicate, length-append, length-replicate}
 use lib.Seq.{drop-append-seam, take-at, getD-append-add}
 use Rattle.calendar.specs.Limits.{headingLength}
 use Rattle.calendar.specs.Meaning.{Row, empty, bottomRow}
+use Rattle.calendar.specs.Granules.{granules}
 use Rattle.calendar.specs.Stored.{joined, headingsFrom}
 use Rattle.calendar.specs.Lists.{filled}
 use Rattle.granules.proofs.Equal.{row-ext}
-use Rattle.conversion.specs.Shows.{startAt, endAt, rowAt}
+use Rattle.row_entry.proofs.Cells.{start-suc, number-suc}
+use Rattle.conversion.specs.Shows.{startAt, granulesAt, endAt, rowAt}
 
 -- ---- lists that are filled up
 
@@ -43,25 +45,15 @@ pub headings-length : (s : ℕ) (l : List Row) → length (headingsFrom s l) ≡
 headings-length s [] = refl
 headings-length s (r ∷ l) = omega (arith, headings-length (s + r .period) l)
 
--- a number of the heading k + 1 is that of the heading k where the first is taken away
-start-suc : (a b c : ℕ) (l : List ℕ) (k : ℕ) → startAt (a ∷ b ∷ c ∷ l) (suc k) ≡ startAt l k
-start-suc a b c l k =
-    let e : headingLength * suc k ≡ suc (suc (suc (headingLength * k))) = omega arith in
-    ap (λ (i : ℕ). getD (a ∷ b ∷ c ∷ l) i 0) e
+-- what the heading k + 1 says is what the heading k says where the first is taken away
+end-suc : (a b c d : ℕ) (l : List ℕ) (k : ℕ) → endAt (a ∷ b ∷ c ∷ d ∷ l) (suc k) ≡ endAt l k
+end-suc a b c d l k = ap₂ (λ (m n : ℕ). m + n) (start-suc a b c d l k) (number-suc a b c d l k 1)
 
-number-suc : (a b c : ℕ) (l : List ℕ) (k j : ℕ) → getD (a ∷ b ∷ c ∷ l) (headingLength * suc k + j) 0 ≡ getD l (headingLength * k + j) 0
-number-suc a b c l k j =
-    let e : headingLength * suc k + j ≡ suc (suc (suc (headingLength * k + j))) = omega arith in
-    ap (λ (i : ℕ). getD (a ∷ b ∷ c ∷ l) i 0) e
-
-end-suc : (a b c : ℕ) (l : List ℕ) (k : ℕ) → endAt (a ∷ b ∷ c ∷ l) (suc k) ≡ endAt l k
-end-suc a b c l k = ap₂ (λ (m n : ℕ). m + n) (start-suc a b c l k) (number-suc a b c l k 1)
-
-row-suc : (a b c : ℕ) (l : List ℕ) (pool : List ℤ) (k : ℕ) → rowAt (a ∷ b ∷ c ∷ l) pool (suc k) ≡ rowAt l pool k
-row-suc a b c l pool k =
-    let s = start-suc a b c l k in
-    let p = number-suc a b c l k 1 in
-    row-ext (rowAt (a ∷ b ∷ c ∷ l) pool (suc k)) (rowAt l pool k) p (number-suc a b c l k 2) (cc)
+row-suc : (a b c d : ℕ) (l : List ℕ) (pool : List ℤ) (k : ℕ) → rowAt (a ∷ b ∷ c ∷ d ∷ l) pool (suc k) ≡ rowAt l pool k
+row-suc a b c d l pool k =
+    let s = start-suc a b c d l k in
+    let p = number-suc a b c d l k 1 in
+    row-ext (rowAt (a ∷ b ∷ c ∷ d ∷ l) pool (suc k)) (rowAt l pool k) p (number-suc a b c d l k 2) (cc)
 
 -- ---- rows by their headings
 
@@ -77,9 +69,16 @@ row-from (r ∷ l) w before cells numbers (suc k) h =
     let next : List ℕ = headingsFrom (length before + r .period) l ++ numbers in
     let start : length before + r .period ≡ length (before ++ r .cells) = simp length-append (omega (arith, w r (List·Memᴰ·head refl))) in
     let pools : before ++ (r .cells ++ joined l ++ cells) ≡ before ++ r .cells ++ (joined l ++ cells) = simp append-assoc in
-    row-suc (length before) (r .period) (r .distance) next (before ++ (r .cells ++ joined l ++ cells)) k
+    row-suc (length before) (r .period) (r .distance) (granules r) next (before ++ (r .cells ++ joined l ++ cells)) k
     ∙ ap₂ (λ (n : ℕ) (pool : List ℤ). rowAt (headingsFrom n l ++ numbers) pool k) start pools
     ∙ row-from l (whole-tail r l w) (before ++ r .cells) cells numbers k (omega arith)
+
+granules-from : (l : List Row) (s : ℕ) (numbers : List ℕ) (k : ℕ) → k < length l → granulesAt (headingsFrom s l ++ numbers) k ≡ granules (getD l k bottomRow)
+granules-from [] s numbers k h = absurd (omega arith)
+granules-from (r ∷ l) s numbers zero h = refl
+granules-from (r ∷ l) s numbers (suc k) h =
+    number-suc s (r .period) (r .distance) (granules r) (headingsFrom (s + r .period) l ++ numbers) k 3
+    ∙ granules-from l (s + r .period) numbers k (omega arith)
 
 next-from : (l : List Row) (s : ℕ) (numbers : List ℕ) (k : ℕ) → suc k < length l
     → startAt (headingsFrom s l ++ numbers) (suc k) ≡ endAt (headingsFrom s l ++ numbers) k
@@ -88,9 +87,9 @@ next-from (r ∷ []) s numbers k h = absurd (omega arith)
 next-from (r ∷ q ∷ l) s numbers zero h = refl
 next-from (r ∷ q ∷ l) s numbers (suc k) h =
     let next : List ℕ = headingsFrom (s + r .period) (q ∷ l) ++ numbers in
-    start-suc s (r .period) (r .distance) next (suc k)
+    start-suc s (r .period) (r .distance) (granules r) next (suc k)
     ∙ next-from (q ∷ l) (s + r .period) numbers k (omega arith)
-    ∙ sym (end-suc s (r .period) (r .distance) next k)
+    ∙ sym (end-suc s (r .period) (r .distance) (granules r) next k)
 
 -- what lies behind each row lies behind all
 behind-from : (l : List Row) → Whole l → (s : ℕ) (numbers : List ℕ) (i : ℕ) → s ≤ i
@@ -98,7 +97,7 @@ behind-from : (l : List Row) → Whole l → (s : ℕ) (numbers : List ℕ) (i :
 behind-from [] w s numbers i low h = omega arith
 behind-from (r ∷ l) w s numbers i low h =
     let next : List ℕ = headingsFrom (s + r .period) l ++ numbers in
-    let rest : (k : ℕ) → k < length l → endAt next k ≤ i = λ k b. omega (arith, h (suc k) (omega arith), end-suc s (r .period) (r .distance) next k) in
+    let rest : (k : ℕ) → k < length l → endAt next k ≤ i = λ k b. omega (arith, h (suc k) (omega arith), end-suc s (r .period) (r .distance) (granules r) next k) in
     let ih = behind-from l (whole-tail r l w) (s + r .period) numbers i (h 0 (omega arith)) rest in
     simp length-append (omega (arith, w r (List·Memᴰ·head refl)))
 
@@ -121,6 +120,10 @@ module _ (l : List Row) (whole : Whole l) (h p : ℕ) where
   -- the row that is read by the heading k is the row k
   pub row-left : (k : ℕ) → k < length l → rowAt (numbersOf h l) (cellsOf p l) k ≡ getD l k bottomRow
   row-left = row-from l whole [] (replicate (p - length (joined l)) empty) zeros
+
+  -- the fourth number of the heading k is R of that row
+  pub granules-left : (k : ℕ) → k < length l → granulesAt (numbersOf h l) k ≡ granules (rowAt (numbersOf h l) (cellsOf p l) k)
+  granules-left k b = granules-from l 0 zeros k b ∙ ap granules (sym (row-left k b))
 
   pub next-left : (k : ℕ) → suc k < length l → startAt (numbersOf h l) (suc k) ≡ endAt (numbersOf h l) k
   next-left = next-from l 0 zeros

@@ -1,4 +1,4 @@
-// The conversion of a table: each entry's least row into the pool, one behind the other, with a heading of three numbers.
+// The conversion of a table: each entry's least row into the pool, one behind the other, with a heading of four numbers.
 
 ghost use mathlib.Core.Path.{_≡_};
 ghost use mathlib.Core.List.{List, [], _++_};
@@ -14,7 +14,7 @@ use calendar::Calendar;
 use entries::Begun;
 use entries::Reading;
 
-// How many numbers a heading has: start, period and distance.
+// How many numbers a heading has: start, period, distance and granules.
 pub use row_entry::HEADING_LENGTH;
 
 // What converting one entry comes to: a refusal, or its row ends before that cell.
@@ -98,7 +98,7 @@ fn convert_entries(table: &[i32], n: usize, headings: &mut [u32], pool: &mut [i3
     Conversion::Converted
 }
 
-// Converts a table. Answered, the pool holds the least row of each entry and the headings say where, three numbers each; after a refusal every cell is empty and
+// Converts a table. Answered, the pool holds the least row of each entry and the headings say where, four numbers each; after a refusal every cell is empty and
 // every number of a heading is zero. Refuses 1, 2 and 3 for the lists, with entry 0, and 4 to 12 for the first entry that calls for it. Costs time in proportion to span and
 // working period of each entry, and to its row for each divisor that is tried; no memory.
 pub fn convert(table: &[i32], headings: &mut [u32], pool: &mut [i32]) -> Conversion

@@ -119,15 +119,11 @@ has-repeats r v u =
 pub granules-window : (r : Row) → Valid r → (k : ℤ) → length (keep (has r) (from k (r .distance))) ≡ granules r
 granules-window r v k = count-window (has r) (r .distance) (has-repeats r v) k ∙ sym (granules-is r)
 
--- over the meaning: however the labels from k to k + N − 1 are listed, there are R of them
-pub granules-count : (r : Row) → Valid r → (k : ℤ) (l : List ℤ) → Lists (λ j. Has (meant r) j × (k ≤ℤ j) × (j <ℤ (k +ℤ pos (r .distance)))) l → length l ≡ granules r
-granules-count r v k l x = ap length (lists-unique l (keep (has r) w) x window) ∙ granules-window r v k
-  where
-    w : List ℤ
-    w = from k (r .distance)
-
-    window : Lists (λ j. Has (meant r) j × (k ≤ℤ j) × (j <ℤ (k +ℤ pos (r .distance)))) (keep (has r) w)
-    window = record {
+-- they are the labels from k to k + N − 1
+pub granules-lists : (r : Row) → Valid r → (k : ℤ) → Lists (λ j. Has (meant r) j × (k ≤ℤ j) × (j <ℤ (k +ℤ pos (r .distance)))) (keep (has r) (from k (r .distance)))
+granules-lists r v k =
+    let w = from k (r .distance) in
+    record {
       rising = rising-keep (has r) w (rising-from k (r .distance));
       member = λ j. (
         λ h. mem-keep (has r) j w .1 (mem-from j k (r .distance) .1 (h .1, h .2), has-iff r v j .1 (h .0)),
@@ -136,6 +132,11 @@ granules-count r v k l x = ap length (lists-unique l (keep (has r) w) x window) 
             (has-iff r v j .0 (h .1), b .0, b .1),
       );
     }
+
+-- over the meaning: however the labels from k to k + N − 1 are listed, there are R of them
+pub granules-count : (r : Row) → Valid r → (k : ℤ) (l : List ℤ) → Lists (λ j. Has (meant r) j × (k ≤ℤ j) × (j <ℤ (k +ℤ pos (r .distance)))) l → length l ≡ granules r
+granules-count r v k l x =
+    ap length (lists-unique l (keep (has r) (from k (r .distance))) x (granules-lists r v k)) ∙ granules-window r v k
 
 -- a number is the first of the window that starts with it
 starts : (r : Row) → Valid r → (j : ℤ) → List·Memᴰ j (from j (r .distance))

@@ -1,4 +1,4 @@
--- Headings as plain numbers, three each, and as records.
+-- Headings as plain numbers, four each, and as records.
 -- Assumes nothing.
 use mathlib.Core.Path.{_≡_, refl, sym, _∙_, ap, ap₂, subst}
 use mathlib.Core.Bool.{Bool, true, false, _&&_}
@@ -13,6 +13,7 @@ use Rattle.calendar.specs.Meaning.{Row}
 use Rattle.calendar.specs.Limits.{poolLimit, entryLimit, headingLength}
 use Rattle.calendar.specs.Reply.{Reply, require}
 use Rattle.calendar.specs.Reply.Reply.{answer}
+use Rattle.calendar.specs.Granules.{granules}
 use Rattle.calendar.specs.Outcome.{Outcome, outcome}
 use Rattle.calendar.specs.Outcome.Outcome.{refusedAt, rows}
 use Rattle.calendar.specs.Stored.{headingsFrom, headingsAfter}
@@ -23,7 +24,7 @@ use Rattle.algebra.specs.TableMeaning.TableReply.{means}
 use Rattle.algebra.proofs.Demand2.{demand-2-only, represents-length}
 use Rattle.algebra.proofs.Steps.{afterTable, outcome-is}
 use Rattle.laws.proofs.Answered.{stored-means}
-use Rattle.row_entry.proofs.Cells.{drop-alike}
+use Rattle.row_entry.proofs.Cells.{drop-alike, start-suc, number-suc}
 use Rattle.conversion.proofs.Headings.{filled-behind, headings-length}
 use Rattle.conversion.proofs.LeftRows.{means-length}
 use Rattle.hand_proofs.specs.Tabled.{tabled}
@@ -100,20 +101,15 @@ tabled-alike a zero = refl
 tabled-alike a (suc n) = ap (λ (l : List _). a ∷ l) (tabled-alike a n)
 
 -- equal numbers make equal headings
-pub record-ext : {s p d s′ p′ d′ : ℕ} → s ≡ s′ → p ≡ p′ → d ≡ d′
-    → _≡_ {A = Heading} (record { start = s; period = p; distance = d }) (record { start = s′; period = p′; distance = d′ })
-record-ext e f g = λ i. record { start = e i; period = f i; distance = g i }
+pub record-ext : {s p d g s′ p′ d′ g′ : ℕ} → s ≡ s′ → p ≡ p′ → d ≡ d′ → g ≡ g′
+    → _≡_ {A = Heading} (record { start = s; period = p; distance = d; granules = g }) (record { start = s′; period = p′; distance = d′; granules = g′ })
+record-ext e f g h = λ i. record { start = e i; period = f i; distance = g i; granules = h i }
 
 -- the heading k + 1 is the heading k where the first is taken away
-number-behind : (a b c : ℕ) (l : List ℕ) (i j : ℕ) → i ≡ 3 + j → getD (a ∷ b ∷ c ∷ l) i 0 ≡ getD l j 0
-number-behind a b c l i j e =
-    let f : i ≡ suc (suc (suc j)) = omega arith in
-    ap (λ (i : ℕ). getD (a ∷ b ∷ c ∷ l) i 0) f
-
-record-behind : (a b c : ℕ) (l : List ℕ) (k : ℕ) → recordAt (a ∷ b ∷ c ∷ l) (suc k) ≡ recordAt l k
-record-behind a b c l k =
-    record-ext (number-behind a b c l (headingLength * suc k) (headingLength * k) (omega arith)) (number-behind a b c l (headingLength * suc k + 1) (headingLength * k + 1) (omega arith))
-    (number-behind a b c l (headingLength * suc k + 2) (headingLength * k + 2) (omega arith))
+pub record-behind : (a b c d : ℕ) (l : List ℕ) (k : ℕ) → recordAt (a ∷ b ∷ c ∷ d ∷ l) (suc k) ≡ recordAt l k
+record-behind a b c d l k =
+    let number = number-suc a b c d l k in
+    record-ext (start-suc a b c d l k) (number 1) (number 2) (number 3)
 
 records-from : (l : List Row) (s : ℕ) (behind : List ℕ) (n : ℕ) → length l ≤ n
     → recordsOf (headingsFrom s l ++ behind) n ≡ recordsFrom s l ++ recordsOf behind (n - length l)
@@ -123,8 +119,8 @@ records-from (r ∷ l) s behind (suc n) h =
     let next : ℕ = s + r .period in
     let rest : List ℕ = headingsFrom next l ++ behind in
     let e : n - length l ≡ suc n - suc (length l) = omega arith in
-    ap (λ (x : List Heading). recordAt (s ∷ r .period ∷ r .distance ∷ rest) 0 ∷ x)
-    (tabled-ext _ (recordAt rest) (record-behind s (r .period) (r .distance) rest) n
+    ap (λ (x : List Heading). recordAt (s ∷ r .period ∷ r .distance ∷ granules r ∷ rest) 0 ∷ x)
+    (tabled-ext _ (recordAt rest) (record-behind s (r .period) (r .distance) (granules r) rest) n
     ∙ records-from l next behind n (omega arith)
     ∙ ap (λ (i : ℕ). recordsFrom next l ++ recordsOf behind i) e)
 
@@ -134,7 +130,7 @@ zero-at k i = simp sub-zero at (filled-behind {A = ℕ} k 0 [] i (omega arith))
 
 zero-records : (k n : ℕ) → recordsOf (replicate k 0) n ≡ replicate n noHeading
 zero-records k n =
-    tabled-ext (recordAt (replicate k 0)) (λ i. noHeading) (λ i. record-ext (zero-at k _) (zero-at k _) (zero-at k _)) n ∙ tabled-alike noHeading n
+    tabled-ext (recordAt (replicate k 0)) (λ i. noHeading) (λ i. record-ext (zero-at k _) (zero-at k _) (zero-at k _) (zero-at k _)) n ∙ tabled-alike noHeading n
 
 numbers-records : (o : Outcome) (n : ℕ) → Headed n o → recordsOf (headingsAfter (headingLength * entryLimit) o) n ≡ recordsAfter n o
 unfolding headingsAfter recordsAfter

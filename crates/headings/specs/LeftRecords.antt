@@ -8,31 +8,34 @@ use Rattle.calendar.specs.Outcome.{Outcome, outcome}
 use Rattle.calendar.specs.Outcome.Outcome.{refusedAt, rows}
 use Rattle.calendar.specs.Stored.{poolAfter}
 use Rattle.calendar.specs.Lists.{filled}
+use Rattle.calendar.specs.Granules.{granules}
 use Rattle.algebra.specs.TableMeaning.{Meant, TableMeans}
 use Rattle.algebra.specs.TableMeaning.TableReply.{means}
 use Rattle.conversion.specs.Answers.{answered}
-use Rattle.conversion.specs.Shows.{startAt, periodAt, distanceAt}
+use Rattle.conversion.specs.Shows.{startAt, periodAt, distanceAt, granulesAt}
 use Rattle.conversion.specs.declared.Conversion.{Conversion}
 use Rattle.conversion.specs.declared.Conversion.the-variants.{Converted}
 use Rattle.hand_proofs.specs.Tabled.{tabled}
 use Rattle.headings.specs.Records.{noHeading, rowAt}
 use Rattle.headings.specs.declared.Heading.{Heading}
 
--- "one record for each entry: start, period, distance"; the first row starts at `start`
+-- "one record for each entry: start, period, distance" and "a fourth number, the slots per period of the least form"; the first row
+-- starts at `start`
 abbrev pub recordsFrom : ℕ → List Row → List Heading
 recordsFrom start [] = []
-recordsFrom start (r ∷ l) = record { start = start; period = r .period; distance = r .distance } ∷ recordsFrom (start + r .period) l
+recordsFrom start (r ∷ l) = record { start = start; period = r .period; distance = r .distance; granules = granules r } ∷ recordsFrom (start + r .period) l
 
 -- a list of n headings: "Headings beyond the last entry are zero"; after a refusal all are
 unfoldable pub recordsAfter : ℕ → Outcome → List Heading
+unfolding granules
 recordsAfter n (refusedAt m k) = filled n noHeading []
 recordsAfter n (rows l) = filled n noHeading (recordsFrom 0 l)
 
--- ---- from plain numbers, three a heading
+-- ---- from plain numbers, four a heading
 
 -- the heading i of the numbers; it is zero past them
 abbrev pub recordAt : List ℕ → ℕ → Heading
-recordAt plain i = record { start = startAt plain i; period = periodAt plain i; distance = distanceAt plain i }
+recordAt plain i = record { start = startAt plain i; period = periodAt plain i; distance = distanceAt plain i; granules = granulesAt plain i }
 
 -- the first n headings of the numbers
 abbrev pub recordsOf : List ℕ → ℕ → List Heading

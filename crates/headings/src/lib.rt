@@ -12,14 +12,15 @@ use calendar::ENTRY_LIMIT;
 use conversion::Conversion;
 use conversion::HEADING_LENGTH;
 
-// The heading of an entry: where its row starts in the pool, and its period and distance.
+// The heading of an entry: where its row starts in the pool, its period and distance, and its granules per period.
 pub struct Heading {
     pub start: u32,
     pub period: u32,
     pub distance: u32,
+    pub granules: u32,
 }
 
-// A conversion by value: its answer, and three numbers for each entry that a table may have.
+// A conversion by value: its answer, and four numbers for each entry that a table may have.
 struct Made {
     answer: Conversion,
     plain: [u32; HEADING_LENGTH * ENTRY_LIMIT],
@@ -51,12 +52,14 @@ fn heading_at(m: Made, i: usize) -> Heading
             start: m.plain[at],
             period: m.plain[at + 1],
             distance: m.plain[at + 2],
+            granules: m.plain[at + 3],
         }
     } else {
         Heading {
             start: 0,
             period: 0,
             distance: 0,
+            granules: 0,
         }
     }
 }

@@ -5,15 +5,14 @@ use mathlib.Core.Option.{Option, none, some}
 use Prim.Native.Nat.{ℕ, zero, suc, _+_, _*_}
 use lib.IntN.{ℤ, pos, negsuc, negℤ}
 use lib.Ieee.{Float, fin}
+use Rattle.integers.specs.Parts.{up}
 use Rattle.calendar.specs.Meaning.{Row}
 use Rattle.calendar.specs.Reply.{Reply}
 use Rattle.calendar.specs.Reply.Reply.{refused, answer}
-use Rattle.calendar.specs.Granules.{granules}
-use Rattle.calendar.specs.Questions.{labelledInstants}
+use Rattle.calendar.specs.Questions.{labelledInstants, soundWith}
 use Rattle.floats.specs.Figures.{Quotients}
 use Rattle.floats.specs.declared.Allowance.{Allowance}
 use Rattle.floats.specs.declared.Allowance.the-variants.{Fixed, Share}
-use Rattle.calendar.specs.Sound.{sound}
 use Rattle.conversion.specs.declared.Conversion.{Conversion}
 use Rattle.conversion.specs.declared.Conversion.the-variants.{Refused, Converted}
 
@@ -37,7 +36,7 @@ abbrev pub downCode : Reply ℕ → ℤ
 downCode (refused n) = refusalCode n
 downCode (answer n) = pos n
 
--- ---- figures: 0, or 13 where the row isn't sound
+-- ---- figures: 0, or 13 where the row isn't sound or has another number of granules
 abbrev pub figuresCode : Bool → ℤ
 figuresCode true = pos 0
 figuresCode false = refusalCode 13
@@ -46,12 +45,12 @@ figuresCode false = refusalCode 13
 abbrev pub nought : Float
 nought = fin false 0 (pos 0)
 
--- the code, and the three numbers that are left: the figures of a sound row, else zeros
-pub record FiguresLeft (r : Row) (code : ℤ) (openness meanLength meanSpacing : Float) : Type 0 where
-  pub is : code ≡ figuresCode (sound r)
-  pub figures : sound r ≡ true
-      → Quotients (labelledInstants r) (r .period) (granules r) (record { openness = openness; «mean_length» = meanLength; «mean_spacing» = meanSpacing })
-  pub zeros : sound r ≡ false → (openness ≡ nought) × (meanLength ≡ nought) × (meanSpacing ≡ nought)
+-- the code, and the three numbers that are left: the figures of a row that is sound with its R, else zeros
+pub record FiguresLeft (r : Row) (n code : ℤ) (openness meanLength meanSpacing : Float) : Type 0 where
+  pub is : code ≡ figuresCode (soundWith r n)
+  pub figures : soundWith r n ≡ true
+      → Quotients (labelledInstants r) (r .period) (up n) (record { openness = openness; «mean_length» = meanLength; «mean_spacing» = meanSpacing })
+  pub zeros : soundWith r n ≡ false → (openness ≡ nought) × (meanLength ≡ nought) × (meanSpacing ≡ nought)
 
 -- ---- the least period, and the number tried, or 0
 abbrev pub leastCode : Reply (ℤ × ℕ) → ℤ

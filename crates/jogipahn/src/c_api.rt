@@ -122,19 +122,20 @@ pub extern "C" fn jogipahn_down(
     }
 }
 
-// The open part of the row, the mean length of its slots and their mean spacing: 0.
+// The open part of a row with so many slots in its period, the mean length of its slots and their mean spacing: 0.
 #[no_mangle]
 pub extern "C" fn jogipahn_figures(
     cells: &[i32],
     period: i64,
     distance: i64,
+    granules: i64,
     openness: &mut f64,
     mean_length: &mut f64,
     mean_spacing: &mut f64,
 ) -> i64
-    ensures { λ r. ⌜ FiguresLeft (given period distance (now (cells .entry))) r (now (openness .exit)) (now («mean_length» .exit)) (now («mean_spacing» .exit)) ⌝ }
+    ensures { λ r. ⌜ FiguresLeft (given period distance (now (cells .entry))) granules r (now (openness .exit)) (now («mean_length» .exit)) (now («mean_spacing» .exit)) ⌝ }
 {
-    let figured = questions::figures(cells, period, distance);
+    let figured = questions::figures(granules, cells, period, distance);
     match figured {
         Figured::Are(v) => {
             *openness = v.openness;
@@ -218,7 +219,7 @@ fn conversion_code(c: Conversion) -> i64
     }
 }
 
-// Converts a table, with three numbers a heading: 0, or 100 times the refusal's number plus its entry.
+// Converts a table, with four numbers a heading: 0, or 100 times the refusal's number plus its entry.
 #[no_mangle]
 pub extern "C" fn jogipahn_convert(table: &[i32], headings: &mut [u32], pool: &mut [i32]) -> i64
     ensures { λ r. ⌜ LeftCoded (now (table .entry)) (length (now (headings .entry))) (length (now (pool .entry))) r (now (headings .exit)) (now (pool .exit)) ⌝ }

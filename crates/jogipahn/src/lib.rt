@@ -74,13 +74,13 @@ pub use calendar::Refusal;
 // heading zero. Costs time in proportion to the working rows and a few divisors of each, and no memory.
 pub use headings::convert;
 
-// Where an entry's row starts in the pool, its period and its distance.
+// Where an entry's row starts in the pool, its period, its distance and its slots per period.
 pub use headings::Heading;
 
 // What converting comes to: Converted, or Refused(number, entry).
 pub use conversion::Conversion;
 
-// The same with three plain numbers for each heading: a caller in Rattle proves against it without a proof by hand.
+// The same with four plain numbers for each heading: a caller in Rattle proves against it without a proof by hand.
 pub use conversion::convert as convert_plain;
 
 // A row with its period and distance. Its questions refuse 13 for a row that is not sound, and pass over the row once
@@ -89,7 +89,8 @@ pub use conversion::convert as convert_plain;
 //     up_granule(h, z)     the slot of h that holds all of slot z, or none; refuses 14, 15
 //     down(g, z, parts)    the slots of g that make up slot z, rising, in a lent list; refuses 14, 15, 16, 17, and
 //                          leaves the list zero then
-//     figures()            openness, mean length of a slot and mean spacing
+//     figures(granules)    openness, mean length of a slot and mean spacing of a row with so many slots in its period;
+//                          refuses 13 for another number
 //     least_period()       the least period, and how many divisors were tried for it
 //     may_be_late(z, d, a) whether slot z may be d instants late; refuses 14, 18, 15
 // Beyond the pass over each row up from a slot and down take time in proportion to the slots and their gaps.

@@ -1,10 +1,11 @@
 // A stored row that an operation is over, by where it stands in the pool; and the operations, by kind.
 
-// The row of an earlier entry: its first cell in the pool, its period and its distance.
+// The row of an earlier entry, by the numbers of its heading: its first cell in the pool, its period, its distance and its granules.
 pub struct Operand {
     pub start: usize,
     pub period: i64,
     pub distance: i64,
+    pub granules: i64,
 }
 
 // Alter's numbers: of x coarse granules the y-th gets z fine ones more.

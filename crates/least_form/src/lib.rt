@@ -1,4 +1,4 @@
-// The least period of a row in a slice, and its distance.
+// The least period of a row in a slice, its distance and its granules.
 
 ghost use mathlib.Core.Path.{_≡_};
 ghost use mathlib.Core.Logic.{_↔_};
@@ -248,4 +248,12 @@ pub fn least_distance(period: i64, distance: i64, least: i64) -> i64
     ensures { λ r. ⌜ ((cells : List ℤ) → IsLeast period distance least cells → r ≡ pos (L.least (given period distance cells) .distance)) ⌝ }
 {
     distance * least / period
+}
+
+// R of the least row: that of the row, which has `granules`, divided by the turns that it is.
+pub fn least_granules(period: i64, granules: i64, least: i64) -> i64
+    requires { ⌜ ((distance : ℤ) × (cells : List ℤ) × IsLeast period distance least cells × (granules ≡ pos (G.granules (given period distance cells)))) ⌝ }
+    ensures { λ r. ⌜ ((distance : ℤ) (cells : List ℤ) → IsLeast period distance least cells → granules ≡ pos (G.granules (given period distance cells)) → r ≡ pos (G.granules (L.least (given period distance cells)))) ⌝ }
+{
+    granules * least / period
 }

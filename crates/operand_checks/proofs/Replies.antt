@@ -1,7 +1,7 @@
--- The checks of each kind, as the code makes them.
+-- The checks of each kind, as the code makes them: 7 stands before the others.
 -- Assumes nothing.
-use mathlib.Core.Path.{_≡_, refl, ap}
-use mathlib.Core.Bool.{Bool, true, false, not, _&&_}
+use mathlib.Core.Path.{_≡_, refl, _∙_}
+use mathlib.Core.Bool.{Bool, true, false, not}
 use Prim.Native.Nat.{ℕ}
 use lib.Dec.{leb}
 use lib.IntN.{ℤ, pos}
@@ -17,6 +17,8 @@ use Rattle.calendar.specs.Distance.{size}
 use Rattle.calendar.specs.Checks.{fullOperands, aligned, alignedAs, emptied}
 use Rattle.calendar.specs.Reply.{Reply, require}
 use Rattle.calendar.specs.Reply.Reply.{answer}
+use Rattle.granules.proofs.Tests.{and-iff}
+use Rattle.granules.proofs.Replies.{passed}
 use Rattle.operand_checks.specs.declared.Extent.{Extent}
 use Rattle.operand_checks.specs.Admission.{admission}
 use Rattle.operand_checks.specs.Shared.{wholeTurn, fitted, grouped, spanned, alterExtent, behindSpan}
@@ -49,9 +51,9 @@ pub renumber-is : (x : ℤ) (a : Row) (room : ℕ) → admission (unary (renumbe
 unfolding fullOperands span aligned emptied size
 renumber-is x a room = again (leb (a .period) room) (answer (wholeTurn (pos (a .period)) (pos (granules a))))
 
-pub group-is : (x : ℕ) (a : Row) (room : ℕ) → admission (unary (group x) a) room ≡ require 7 (full a) (grouped x (turn a) room)
+pub group-is : (x : ℕ) (a : Row) (room : ℕ) → fullOperands (unary (group x) a) ≡ true → admission (unary (group x) a) room ≡ grouped x (turn a) room
 unfolding fullOperands span aligned emptied size
-group-is x a room = refl
+group-is x a room h = passed 7 (grouped x (turn a) room) h
 
 -- ---- two operands, with the span as the working period
 
@@ -68,10 +70,9 @@ module _ (a b : Row) (room : ℕ) where
   unfolding fullOperands span aligned emptied size
   by-labels-is s = again-behind (leb (spanOf (turn a) (turn b)) room) (alignedAs compatible a b) _
 
-  pub anchor-is : admission (binary anchor a b) room ≡ require 7 (full a) (spanned subcalendar a b room)
+  pub anchor-is : fullOperands (binary anchor a b) ≡ true → admission (binary anchor a b) room ≡ spanned subcalendar a b room
   unfolding fullOperands span aligned emptied size
-  anchor-is =
-      ap (λ (r : Reply Extent). require 7 (full a) r) (again-behind (leb (spanOf (turn a) (turn b)) room) (alignedAs subcalendar a b) _)
+  anchor-is h = passed 7 _ h ∙ again-behind (leb (spanOf (turn a) (turn b)) room) (alignedAs subcalendar a b) _
 
   -- ---- alter
 
@@ -79,9 +80,13 @@ module _ (a b : Row) (room : ℕ) where
     abbrev altering : O.Operation Row
     altering = binary (alter x y z) a b
 
-    pub alter-is : admission altering room ≡ require 7 (full a && full b) (require 8 (leb (spanOf (turn a) (turn b)) room) (behindSpan altering room))
+    pub alter-full : fullOperands altering ≡ true → (full a ≡ true) × (full b ≡ true)
+    unfolding fullOperands
+    alter-full h = and-iff (full a) (full b) .0 h
+
+    pub alter-is : full a ≡ true → full b ≡ true → admission altering room ≡ require 8 (leb (spanOf (turn a) (turn b)) room) (behindSpan altering room)
     unfolding fullOperands span
-    alter-is = refl
+    alter-is h k = passed 7 _ (and-iff (full a) (full b) .1 (h, k))
 
     pub behind-is : behindSpan altering room
         ≡ require 9 (alignedAs partition a b) (require 10 (not (emptied altering)) (fitted (alterExtent (pos (spanOf (turn a) (turn b))) (alterTurn (turn a) (turn b) x z)) room))

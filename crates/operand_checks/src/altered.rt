@@ -105,7 +105,7 @@ fn aligned(
     sized(by, room, span, a_period, a_distance, b_period, b_distance)
 }
 
-// The checks of alter.
+// The checks of alter behind 7, of full operands.
 pub fn alter(
     by: Alteration,
     room: i64,
@@ -120,14 +120,10 @@ pub fn alter(
     requires { ⌜ IsRoom room ⌝ }
     requires { ⌜ Sound «a_period» «a_distance» (now «a_cells») ⌝ }
     requires { ⌜ Sound «b_period» «b_distance» (now «b_cells») ⌝ }
+    requires { ⌜ full (given «a_period» «a_distance» (now «a_cells»)) ≡ true ⌝ }
+    requires { ⌜ full (given «b_period» «b_distance» (now «b_cells»)) ≡ true ⌝ }
     ensures { λ r. ⌜ checkedReply r ≡ admission (altering by (given «a_period» «a_distance» (now («a_cells» .entry))) (given «b_period» «b_distance» (now («b_cells» .entry)))) (up room) ⌝ }
 {
-    if !super::is_full(a_cells, a_period, a_distance) {
-        return Checked::Refused(Refusal::OperandNotFull);
-    }
-    if !super::is_full(b_cells, b_period, b_distance) {
-        return Checked::Refused(Refusal::OperandNotFull);
-    }
     let capped = super::spanning::span_of(room, a_period, a_distance, b_period, b_distance);
     let Capped::Within(s) = capped else {
         return Checked::Refused(Refusal::TooLong);

@@ -1,21 +1,23 @@
-// The checks of an entry's operands and of its room: 7, 8 for the span, 9, 10, 8 for the working period, in document 01's order.
+// The checks of an entry's operands and of its room: 7 in its own file; 8 for the span, 9, 10, 8 for the working period, in document 01's order.
 
 ghost use mathlib.Core.Path.{_≡_};
+ghost use mathlib.Core.Bool.{true};
 ghost use lib.IntN.{pos};
 ghost use lib.Signed.{_≤ℤ_};
 ghost use Rattle.integers.specs.Parts.{up};
-ghost use Rattle.calendar.specs.Granules.{full};
+ghost use Rattle.calendar.specs.Checks.{fullOperands};
 ghost use Rattle.calendar.specs.Limits.{poolLimit};
 ghost use Rattle.calendar.specs.Questions.{given};
-ghost use Rattle.cursors.specs.Found.{Sound};
 ghost use Rattle.kinds.specs.Operations.{operationOf, operands, Numbers, SoundFirst};
 ghost use Rattle.operand_checks.specs.Admission.{admission, checkedReply};
 ghost use Rattle.operand_checks.specs.Shared.{IsRoom, wholeTurn, fitted};
 use alignment::Alignment;
 use calendar::Refusal;
+pub use fullness::are_full;
 use kinds::Kind;
 
 mod altered;
+mod fullness;
 mod grouping;
 mod spanning;
 
@@ -30,14 +32,6 @@ pub struct Extent {
 pub enum Checked {
     Refused(Refusal),
     Passed(Extent),
-}
-
-// Whether every whole number is a label of the row.
-fn is_full(cells: &[i32], period: i64, distance: i64) -> bool
-    requires { ⌜ Sound period distance (now cells) ⌝ }
-    ensures { λ r. ⌜ r ≡ full (given period distance (now (cells .entry))) ⌝ }
-{
-    counts::granules(cells, period, distance) == distance
 }
 
 // 8, where span and working period are those of the one operand, or 1.
@@ -56,7 +50,7 @@ fn whole(room: i64, period: i64, distance: i64) -> Checked
     }
 }
 
-// The checks of an operation over two rows, or over one that is given twice.
+// The checks behind 7 of an operation over two rows, or over one that is given twice.
 pub fn check(
     kind: Kind,
     room: i64,
@@ -69,12 +63,13 @@ pub fn check(
 ) -> Checked
     requires { ⌜ Numbers kind ⌝ }
     requires { ⌜ SoundFirst (operands kind) (given «a_period» «a_distance» (now «a_cells»)) (given «b_period» «b_distance» (now «b_cells»)) ⌝ }
+    requires { ⌜ fullOperands (operationOf kind (given «a_period» «a_distance» (now «a_cells»)) (given «b_period» «b_distance» (now «b_cells»))) ≡ true ⌝ }
     requires { ⌜ (pos 0 ≤ℤ room) × (room ≤ℤ pos poolLimit) ⌝ }
     ensures { λ r. ⌜ checkedReply r ≡ admission (operationOf kind (given «a_period» «a_distance» (now («a_cells» .entry))) (given «b_period» «b_distance» (now («b_cells» .entry)))) (up room) ⌝ }
 {
     match kind {
         Kind::Bottom => whole(room, 1, 1),
-        Kind::Group(x) => grouping::group(x, room, a_cells, a_period, a_distance),
+        Kind::Group(x) => grouping::grouped(x, room, a_period, a_distance),
         Kind::Shift(_) => whole(room, a_period, a_distance),
         Kind::Renumber(_) => whole(
             room,
@@ -111,7 +106,8 @@ pub fn check(
             b_period,
             b_distance,
         ),
-        Kind::Anchor => spanning::anchor(
+        Kind::Anchor => spanning::spanned(
+            Alignment::Subcalendar,
             room,
             a_cells,
             a_period,

@@ -5,15 +5,13 @@ ghost use lib.IntN.{pos};
 ghost use lib.Signed.{_≤ℤ_};
 ghost use Rattle.integers.specs.Parts.{up};
 ghost use Rattle.integers.specs.Capped.{cappedAt};
-ghost use Rattle.calendar.specs.Operation as O;
-ghost use Rattle.calendar.specs.Operation.Operation.{binary};
 ghost use Rattle.calendar.specs.Size.{spanOf};
 ghost use Rattle.calendar.specs.Limits.{poolLimit};
 ghost use Rattle.calendar.specs.Questions.{given};
 ghost use Rattle.sizes.specs.Stored.{turnOf};
 ghost use Rattle.cursors.specs.Found.{Sound};
 ghost use Rattle.alignment.specs.Pass.{Limited};
-ghost use Rattle.operand_checks.specs.Admission.{admission, checkedReply};
+ghost use Rattle.operand_checks.specs.Admission.{checkedReply};
 ghost use Rattle.operand_checks.specs.Shared as Shared;
 ghost use Rattle.alignment.specs.Fits.{alignmentOf};
 ghost use Rattle.operand_checks.specs.Shared.{IsRoom, turnFor, overSpan};
@@ -97,34 +95,4 @@ pub fn spanned(
     } else {
         Checked::Refused(Refusal::NotAligned)
     }
-}
-
-// The checks of anchor.
-pub fn anchor(
-    room: i64,
-    a_cells: &[i32],
-    a_period: i64,
-    a_distance: i64,
-    b_cells: &[i32],
-    b_period: i64,
-    b_distance: i64,
-) -> Checked
-    requires { ⌜ Sound «a_period» «a_distance» (now «a_cells») ⌝ }
-    requires { ⌜ Sound «b_period» «b_distance» (now «b_cells») ⌝ }
-    requires { ⌜ IsRoom room ⌝ }
-    ensures { λ r. ⌜ checkedReply r ≡ admission (binary O.Binary.anchor (given «a_period» «a_distance» (now («a_cells» .entry))) (given «b_period» «b_distance» (now («b_cells» .entry)))) (up room) ⌝ }
-{
-    if !super::is_full(a_cells, a_period, a_distance) {
-        return Checked::Refused(Refusal::OperandNotFull);
-    }
-    spanned(
-        Alignment::Subcalendar,
-        room,
-        a_cells,
-        a_period,
-        a_distance,
-        b_cells,
-        b_period,
-        b_distance,
-    )
 }

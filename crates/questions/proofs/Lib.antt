@@ -4,10 +4,12 @@
 --     Checks       the reply of `down`, check by check
 --     Lateness     lateness: when each reply is given
 --     Shortest     the least period: when each reply is given
---     Examples     lateness on a granule with a gap
+--     WithGranules figures: when each answer is given
+--     Examples     lateness on a granule with a gap, and figures of a row that isn't least
 pub mod Casts
 pub mod Cleared
 pub mod Checks
 pub mod Lateness
 pub mod Shortest
+pub mod WithGranules
 pub mod Examples

@@ -11,13 +11,13 @@ use Rattle.integers.specs.Parts.{up}
 use Rattle.calendar.specs.Meaning.{Row}
 use Rattle.calendar.specs.Reply.{Reply, require}
 use Rattle.calendar.specs.Reply.Reply.{refused, answer}
-use Rattle.calendar.specs.Granules.{has, granules}
+use Rattle.calendar.specs.Granules.{has}
 use Rattle.calendar.specs.Limits.{lateLimit, between, inRange}
 use Rattle.calendar.specs.Sound.{sound}
 use Rattle.calendar.specs.Least.{least}
 use Rattle.calendar.specs.Tries.{tries}
 use Rattle.calendar.specs.Lists.{filled}
-use Rattle.calendar.specs.Questions.{labelledInstants, granuleLength}
+use Rattle.calendar.specs.Questions.{labelledInstants, granuleLength, soundWith}
 use Rattle.calendar.specs.Refusals.{numberOf}
 use Rattle.floats.specs.Figures.{Quotients}
 use Rattle.floats.specs.Allowance as F
@@ -47,10 +47,10 @@ abbrev pub partsAfter : ℕ → Reply (List ℤ) → List ℤ
 partsAfter n (refused m) = filled n (pos 0) []
 partsAfter n (answer l) = filled n (pos 0) l
 
--- the figures of a row: 13, or labelled instants per period / P, the same / R, and P / R
-abbrev pub FiguresOf : Row → Figured.Figured → Type 0
-FiguresOf r (Figured.the-variants.Are v) = (sound r ≡ true) × Quotients (labelledInstants r) (r .period) (granules r) v
-FiguresOf r (Figured.the-variants.Refused x) = (sound r ≡ false) × (numberOf x ≡ 13)
+-- the figures of a row that is handed in with its R: 13, or labelled instants per period / P, the same / R, and P / R
+abbrev pub FiguresOf : Row → ℤ → Figured.Figured → Type 0
+FiguresOf r n (Figured.the-variants.Are v) = (soundWith r n ≡ true) × Quotients (labelledInstants r) (r .period) (up n) v
+FiguresOf r n (Figured.the-variants.Refused x) = (soundWith r n ≡ false) × (numberOf x ≡ 13)
 
 -- the least period of a row that is handed in, and how many divisors the search tries
 unfoldable pub leastPeriod : Row → Reply (ℤ × ℕ)

@@ -110,16 +110,18 @@ pub fn up_granule(
     }
 }
 
-// Openness, mean length of a slot and mean spacing. Refuses 13. Costs three passes over the row, one of them for
-// check 13.
-pub fn figures(cells: &[i32], period: i64, distance: i64) -> Figured
-    ensures { λ r. ⌜ FiguresOf (given period distance (now (cells .entry))) r ⌝ }
+// Openness, mean length of a slot and mean spacing of a row that has so many granules in its period. Refuses 13, also where
+// it has not. Costs three passes over the row, one of them for check 13 and one for its granules.
+pub fn figures(granules: i64, cells: &[i32], period: i64, distance: i64) -> Figured
+    ensures { λ r. ⌜ FiguresOf (given period distance (now (cells .entry))) granules r ⌝ }
 {
     if !row_check::sound(cells, period, distance) {
         return Figured::Refused(Refusal::RowNotSound);
     }
+    if counts::granules(cells, period, distance) != granules {
+        return Figured::Refused(Refusal::RowNotSound);
+    }
     let labelled = counts::labelled_instants(cells);
-    let granules = counts::granules(cells, period, distance);
     let shown = floats::figures_of(labelled as u64, period as u64, granules as u64);
     Figured::Are(shown)
 }

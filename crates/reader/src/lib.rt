@@ -28,12 +28,12 @@ impl<'a> Reader<'a> {
         questions::up_instant(t, self.cells, self.period, self.distance)
     }
 
-    // Openness, mean length of a slot and mean spacing, each rounded once. Refuses 13. Costs three passes over the
-    // row.
-    pub fn figures(self) -> Figured
-        ensures { λ r. ⌜ FiguresOf (given (self .entry .period) (self .entry .distance) (now (self .entry .cells))) r ⌝ }
+    // Openness, mean length of a slot and mean spacing, each rounded once, of a row with so many slots in its period.
+    // Refuses 13, also where it has another number of slots. Costs three passes over the row.
+    pub fn figures(self, granules: i64) -> Figured
+        ensures { λ r. ⌜ FiguresOf (given (self .entry .period) (self .entry .distance) (now (self .entry .cells))) granules r ⌝ }
     {
-        questions::figures(self.cells, self.period, self.distance)
+        questions::figures(granules, self.cells, self.period, self.distance)
     }
 
     // The least period of the row, and how many common divisors of period, distance and slots were tried for it, the

@@ -3,7 +3,7 @@
 use mathlib.Core.Path.{_≡_, refl, sym, _∙_, ap, ap₂, subst}
 use mathlib.Core.Bool.{true}
 use mathlib.Core.List.{List}
-use Prim.Native.Nat.{ℕ, _-_, _*_, _+_, _≤_, _<_}
+use Prim.Native.Nat.{ℕ, zero, suc, _-_, _*_, _+_, _≤_, _<_}
 use native.Mathlib.Omega.{arith}
 use lib.IntN.{ℤ}
 use lib.ListN.{length, getD}
@@ -20,14 +20,14 @@ use Rattle.kinds.specs.declared.Kind.{Kind}
 use Rattle.kinds.specs.declared.Kind.the-variants.{Bottom, Group, Shift, Alter, Combine, Anchor, Select, ByLabels, Renumber}
 use Rattle.kinds.specs.declared.Operand.{Operand}
 use Rattle.kinds.specs.Operations.{operationOf, operands, SoundFirst}
-use Rattle.kinds.specs.Stands.{rowIn}
+use Rattle.kinds.specs.Stands.{rowIn, Counted, CountedFirst}
 use Rattle.entries.specs.declared.Named.{Named}
 use Rattle.entries.specs.Naming.{Names}
 use Rattle.fill_shared.specs.Placed.{over}
 use Rattle.row_entry.specs.declared.Appended.{Appended}
 use Rattle.row_entry.specs.Stores.{Stores}
 use Rattle.row_entry.specs.Entering.{operandOf, Before, Enterable, Became}
-use Rattle.row_entry.proofs.Standing.{operand-ends, operand-row}
+use Rattle.row_entry.proofs.Standing.{operand-ends, operand-row, operand-counted}
 
 -- ---- kind by kind
 
@@ -43,20 +43,33 @@ rows-alike f g i j (Select x) e = ap₂ (operationOf (Select x)) (e .0) (e .1)
 rows-alike f g i j (ByLabels x) e = ap₂ (operationOf (ByLabels x)) (e .0) (e .1)
 rows-alike f g i j (Renumber x) e = ap (λ (r : Row). operationOf (Renumber x) r r) e
 
--- the row of an operand that is given twice is sound twice
+-- both, if there is an operand at all
+abbrev First : ℕ → Type 0 → Type 0 → Type 0
+First zero A B = Unit {0}
+First (suc n) A B = A × B
+
+-- what holds of an operand that is given twice holds twice
 again : (P : ℕ → Type 0) (i j : ℕ) → j ≡ i → P i → P i × P j
 again P i j e p = (p, subst P (sym e) p)
 
-both-sound : (P : ℕ → Row) (i j : ℕ) (k : Kind) → (operands k < 2 → j ≡ i) → Operands (λ n. sound (P n) ≡ true) (operationOf k i j) → SoundFirst (operands k) (P i) (P j)
-both-sound P i j Bottom e h = tt
-both-sound P i j (Group x) e h = again (λ n. sound (P n) ≡ true) i j (e (omega arith)) h
-both-sound P i j (Shift x) e h = again (λ n. sound (P n) ≡ true) i j (e (omega arith)) h
-both-sound P i j (Alter w) e h = h
-both-sound P i j Combine e h = h
-both-sound P i j Anchor e h = h
-both-sound P i j (Select x) e h = h
-both-sound P i j (ByLabels x) e h = h
-both-sound P i j (Renumber x) e h = again (λ n. sound (P n) ≡ true) i j (e (omega arith)) h
+both : (P : ℕ → Type 0) (i j : ℕ) (k : Kind) → (operands k < 2 → j ≡ i) → Operands P (operationOf k i j) → First (operands k) (P i) (P j)
+both P i j Bottom e h = tt
+both P i j (Group x) e h = again P i j (e (omega arith)) h
+both P i j (Shift x) e h = again P i j (e (omega arith)) h
+both P i j (Alter w) e h = h
+both P i j Combine e h = h
+both P i j Anchor e h = h
+both P i j (Select x) e h = h
+both P i j (ByLabels x) e h = h
+both P i j (Renumber x) e h = again P i j (e (omega arith)) h
+
+sound-first : (n : ℕ) (a b : Row) → First n (sound a ≡ true) (sound b ≡ true) → SoundFirst n a b
+sound-first zero a b h = h
+sound-first (suc n) a b h = h
+
+counted-first : (n : ℕ) (pool : List ℤ) (a b : Operand) → First n (Counted pool a) (Counted pool b) → CountedFirst n pool a b
+counted-first zero pool a b h = h
+counted-first (suc n) pool a b h = h
 
 -- ---- in a pool
 
@@ -78,10 +91,19 @@ module _ (l : List Row) (k : ℕ) (headings : List ℕ) (pool : List ℤ) (used 
   pub over-is : over (n .kind) pool a b ≡ atRows l o
   over-is = ap₂ (over (n .kind) pool) a-is b-is ∙ rows-are
 
+  -- what holds of the operand of each row holds of both
+  of-both : (P : ℕ → Type 0) → ((j : ℕ) → j < length l → P j) → First (operands (n .kind)) (P (n .first)) (P (n .second))
+  of-both P h = both P (n .first) (n .second) (n .kind) (names .twice) (operands-weaken h (operationOf (n .kind) (n .first) (n .second)) earlier)
+
   sounds : SoundFirst (operands (n .kind)) (row (n .first)) (row (n .second))
   sounds =
-      both-sound row (n .first) (n .second) (n .kind) (names .twice)
-      (operands-weaken (λ j b. ap sound (operand-row s j b) ∙ s .all-sound (getD l j bottomRow) (getD-mem l bottomRow j b)) (operationOf (n .kind) (n .first) (n .second)) earlier)
+      sound-first (operands (n .kind)) (row (n .first)) (row (n .second))
+      (of-both (λ j. sound (row j) ≡ true) (λ j b. ap sound (operand-row s j b) ∙ s .all-sound (getD l j bottomRow) (getD-mem l bottomRow j b)))
+
+  counted : CountedFirst (operands (n .kind)) pool (operandOf headings (n .first)) (operandOf headings (n .second))
+  counted =
+      counted-first (operands (n .kind)) pool (operandOf headings (n .first)) (operandOf headings (n .second))
+      (of-both (λ j. Counted pool (operandOf headings j)) (operand-counted s))
 
   before : (j : ℕ) → Before used (operandOf headings j)
   before j = record { period = simp ints (omega arith); ends = operand-ends s j }
@@ -91,6 +113,7 @@ module _ (l : List Row) (k : ℕ) (headings : List ℕ) (pool : List ℤ) (used 
       rw (a-is, b-is) (record {
         numbers = names .numbers;
         sounds = sounds;
+        counted = counted;
         twice = λ h. ap (operandOf headings) (names .twice h);
         a-before = before (n .first);
         b-before = before (n .second);

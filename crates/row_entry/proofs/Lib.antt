@@ -1,7 +1,7 @@
 -- The laws that entering the row of an entry rests on.
 --     Numbers      numbers as the machine casts them
---     Cells        lists in parts
---     Standing     the operand of a heading is its row
+--     Cells        lists in parts, and the numbers of headings
+--     Standing     the operand of a heading is its row, with its granules
 --     Parts        an operand, as the machine takes it apart
 --     Shortening   the least row of a working row
 --     Sounds       what holds of the operation of a kind over sound rows

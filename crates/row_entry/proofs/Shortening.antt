@@ -16,10 +16,12 @@ use Rattle.integers.specs.Parts.{up}
 use Rattle.integers.proofs.Linear.{ints}
 use Rattle.calendar.specs.Meaning.{Row}
 use Rattle.calendar.specs.Limits.{poolLimit, headingLength}
+use Rattle.calendar.specs.Granules.{granules}
 use Rattle.calendar.specs.Least.{least}
 use Rattle.calendar.specs.Questions.{given}
 use Rattle.calendar.specs.Sound.{sound}
 use Rattle.granules.specs.Valid.{Valid}
+use Rattle.granules.proofs.Count.{granules-at-most}
 use Rattle.granules.proofs.Least.{least-shorter}
 use Rattle.granules.proofs.Sound.{sound-valid, sound-limits}
 use Rattle.kinds.specs.declared.Operand.{Operand}
@@ -53,7 +55,7 @@ pub record Found (period distance : ℤ) (used : ℕ) (pool : List ℤ) (z : ℤ
 module _ (period distance : ℤ) (used : ℕ) (pool : List ℤ) (w : Worked period distance used pool) (p : SFits w64 period) (d : SFits w64 distance) where
   -- it stands in the pool as an operand does
   abbrev stands : Operand
-  stands = record { start = used; period = period; distance = distance }
+  stands = record { start = used; period = period; distance = distance; granules = pos 0 }
 
   abbrev row : Row
   row = rowIn pool stands
@@ -68,7 +70,7 @@ module _ (period distance : ℤ) (used : ℕ) (pool : List ℤ) (w : Worked peri
   pub ending-is : ending ≡ used + up period
   ending-is = end-read stands fits (w .low)
 
-  handed-row : handed pool stands ending ≡ row
+  pub handed-row : handed pool stands ending ≡ row
   handed-row = handed-is pool stands ending fits ending-is
 
   pub handed-sound : sound (handed pool stands ending) ≡ true
@@ -82,6 +84,10 @@ module _ (period distance : ℤ) (used : ℕ) (pool : List ℤ) (w : Worked peri
 
   pub dense : least row .distance ≤ least row .period
   dense = least-dense row (sound-limits row (w .is-sound) .0)
+
+  -- R of the least row is at most its period
+  pub few : granules (least row) ≤ least row .period
+  few = omega (arith, granules-at-most (least row), dense)
 
   -- its least period, as the machine holds it
   pub found : (z : ℤ) → z ≡ pos (least row .period) → Found period distance used pool z
@@ -104,20 +110,21 @@ module _ (period distance : ℤ) (used : ℕ) (pool : List ℤ) (w : Worked peri
 
   -- ---- the least row with its heading
 
-  -- its least distance, as the machine holds it
-  pub found-distance : (z : ℤ) → z ≡ pos (least row .distance) → SFits w64 z × (pos 0 ≤ℤ z) × (z ≤ℤ pos poolLimit)
-  found-distance z is = rw is (simp ints (omega (arith, short, dense)), simp ints (omega arith), simp ints (omega (arith, short, dense)))
+  -- a number up to its least period, as the machine holds it
+  pub found-number : (n : ℕ) → n ≤ least row .period → (z : ℤ) → z ≡ pos n → SFits w64 z × (pos 0 ≤ℤ z) × (z ≤ℤ pos poolLimit)
+  found-number n h z is = rw is (simp ints (omega (arith, short)), simp ints (omega arith), simp ints (omega (arith, short)))
 
-  pub added : (k : ℕ) (numbers headings : List ℕ) (z : ℤ) (e a b c : ℕ) → Found period distance used pool z
-      → a ≡ used → b ≡ up z → c ≡ least row .distance → e ≡ used + natAbs (toZ w64 (ofZ w64 z))
-      → headings ≡ take (headingLength * k) numbers ++ (a ∷ b ∷ c ∷ drop (headingLength * k + headingLength) numbers)
+  pub added : (k : ℕ) (numbers headings : List ℕ) (z : ℤ) (e a b c d : ℕ) → Found period distance used pool z
+      → a ≡ used → b ≡ up z → c ≡ least row .distance → d ≡ granules (least row) → e ≡ used + natAbs (toZ w64 (ofZ w64 z))
+      → headings ≡ take (headingLength * k) numbers ++ (a ∷ b ∷ c ∷ d ∷ drop (headingLength * k + headingLength) numbers)
       → Added k used numbers pool (least row) e headings pool
-  added k numbers headings z e a b c f ae be ce ee he =
+  added k numbers headings z e a b c d f ae be ce de ee he =
       let q : up z ≡ least row .period = ap up (f .is) in
+      let rest = drop (headingLength * k + headingLength) numbers in
       record {
         heading = he
-            ∙ ap₂ (λ (a b : ℕ). take (headingLength * k) numbers ++ (a ∷ b ∷ c ∷ drop (headingLength * k + headingLength) numbers)) ae (be ∙ q)
-            ∙ ap (λ (c : ℕ). take (headingLength * k) numbers ++ (used ∷ least row .period ∷ c ∷ drop (headingLength * k + headingLength) numbers)) ce;
+            ∙ ap₂ (λ (a b : ℕ). take (headingLength * k) numbers ++ (a ∷ b ∷ c ∷ d ∷ rest)) ae (be ∙ q)
+            ∙ ap₂ (λ (c d : ℕ). take (headingLength * k) numbers ++ (used ∷ least row .period ∷ c ∷ d ∷ rest)) ce de;
         cells = take-part pool used (up period) (least row .period) short ∙ ap (λ (l : List ℤ). take used pool ++ l) (sym (least-cells row));
         ends = ee ∙ ap (λ (n : ℕ). used + n) (f .read ∙ q);
       }

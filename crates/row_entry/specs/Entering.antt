@@ -10,6 +10,7 @@ use Rattle.integers.specs.Parts.{up}
 use Rattle.calendar.specs.Meaning.{Row}
 use Rattle.calendar.specs.Operation.{Operation}
 use Rattle.calendar.specs.Sound.{sound}
+use Rattle.calendar.specs.Granules.{granules}
 use Rattle.calendar.specs.Limits.{poolLimit, headingLength}
 use Rattle.calendar.specs.Questions.{given}
 use Rattle.calendar.specs.Reply.{Reply}
@@ -20,7 +21,7 @@ use Rattle.entries.specs.Naming.{Names}
 use Rattle.kinds.specs.declared.Kind.{Kind}
 use Rattle.kinds.specs.declared.Operand.{Operand}
 use Rattle.kinds.specs.Operations.{operands, Numbers, SoundFirst}
-use Rattle.kinds.specs.Stands.{end, rowIn}
+use Rattle.kinds.specs.Stands.{end, rowIn, CountedFirst}
 use Rattle.row_entry.specs.declared.Appended.{Appended}
 use Rattle.row_entry.specs.declared.Appended.the-variants.{Refused, Ends}
 use Rattle.row_entry.specs.Stores.{Stores}
@@ -28,7 +29,12 @@ use Rattle.row_entry.specs.Stores.{Stores}
 -- the row whose heading is the j-th
 abbrev pub operandOf : List ℕ → ℕ → Operand
 operandOf headings j =
-    record { start = getD headings (headingLength * j) 0; period = pos (getD headings (headingLength * j + 1) 0); distance = pos (getD headings (headingLength * j + 2) 0) }
+    record {
+      start = getD headings (headingLength * j) 0;
+      period = pos (getD headings (headingLength * j + 1) 0);
+      distance = pos (getD headings (headingLength * j + 2) 0);
+      granules = pos (getD headings (headingLength * j + 3) 0);
+    }
 
 -- an operation over the rows of earlier entries is due, and there is a heading for it
 pub record NamedDue (n : Named) (k : ℕ) (headings : List ℕ) (pool : List ℤ) (used : ℕ) : Type 0 where
@@ -46,6 +52,7 @@ pub record Before (n : ℕ) (a : Operand) : Type 0 where
 pub record Enterable (kind : Kind) (a b : Operand) (k used : ℕ) (headings : List ℕ) (pool : List ℤ) : Type 0 where
   pub numbers : Numbers kind
   pub sounds : SoundFirst (operands kind) (rowIn pool a) (rowIn pool b)
+  pub counted : CountedFirst (operands kind) pool a b
   pub twice : operands kind < 2 → b ≡ a
   pub a-before : Before used a
   pub b-before : Before used b
@@ -62,7 +69,7 @@ pub record Worked (period distance : ℤ) (used : ℕ) (pool : List ℤ) : Type 
 
 -- the row r is added to the first `used` cells of the pool `before`, with the k-th heading; what stands behind it is left open
 pub record Added (k used : ℕ) (numbers : List ℕ) (before : List ℤ) (r : Row) (e : ℕ) (headings : List ℕ) (pool : List ℤ) : Type 0 where
-  pub heading : headings ≡ take (headingLength * k) numbers ++ (used ∷ r .period ∷ r .distance ∷ drop (headingLength * k + headingLength) numbers)
+  pub heading : headings ≡ take (headingLength * k) numbers ++ (used ∷ r .period ∷ r .distance ∷ granules r ∷ drop (headingLength * k + headingLength) numbers)
   pub cells : take (used + r .period) pool ≡ take used before ++ r .cells
   pub ends : e ≡ used + r .period
 

@@ -9,6 +9,7 @@ ghost use lib.ListN.{length, take, drop};
 ghost use Rattle.integers.specs.Parts.{up};
 ghost use Rattle.calendar.specs.Meaning.{Row};
 ghost use Rattle.calendar.specs.Limits.{poolLimit, headingLength};
+ghost use Rattle.calendar.specs.Granules as G;
 ghost use Rattle.calendar.specs.Questions.{given};
 ghost use Rattle.calendar.specs.Least.{least};
 ghost use Rattle.calendar.specs.Reply.Reply.{answer};
@@ -16,7 +17,7 @@ ghost use Rattle.calendar.specs.Outcome.{converted, atRows};
 ghost use Rattle.calendar.specs.Operation.{Operation};
 ghost use Rattle.entries.specs.Naming.{Names};
 ghost use Rattle.kinds.specs.Operations.{operands, Numbers, SoundFirst};
-ghost use Rattle.kinds.specs.Stands.{rowIn};
+ghost use Rattle.kinds.specs.Stands.{rowIn, CountedFirst};
 ghost use Rattle.fill_shared.specs.Placed.{over};
 ghost use Rattle.operand_checks.specs.Admission.{admission, checkedReply};
 ghost use Rattle.row_entry.specs.Stores.{Stores};
@@ -29,8 +30,8 @@ use kinds::Operand;
 use operand_checks::Checked;
 use operand_checks::Extent;
 
-// How many numbers a heading has: start, period and distance.
-pub const HEADING_LENGTH: usize = 3;
+// How many numbers a heading has: start, period, distance and granules.
+pub const HEADING_LENGTH: usize = 4;
 
 // What entering the row of an entry comes to: a refusal, or the row ends before that cell.
 pub enum Appended {
@@ -48,6 +49,7 @@ fn operand_at(headings: &[u32], j: usize) -> Operand
         start: headings[at] as usize,
         period: headings[at + 1] as i64,
         distance: headings[at + 2] as i64,
+        granules: headings[at + 3] as i64,
     }
 }
 
@@ -60,26 +62,38 @@ fn number(z: i64) -> u32
 }
 
 // Writes the k-th heading.
-fn write_heading(headings: &mut [u32], k: usize, start: u32, period: u32, distance: u32)
+fn write_heading(
+    headings: &mut [u32],
+    k: usize,
+    start: u32,
+    period: u32,
+    distance: u32,
+    granules: u32,
+)
     requires { ⌜ headingLength * k + headingLength ≤ length (now headings) ⌝ }
-    ensures { λ r. ⌜ now (headings .exit) ≡ take (headingLength * k) (now (headings .entry)) ++ (start ∷ period ∷ distance ∷ drop (headingLength * k + headingLength) (now (headings .entry))) ⌝ }
+    ensures { λ r. ⌜ now (headings .exit) ≡ take (headingLength * k) (now (headings .entry)) ++ (start ∷ period ∷ distance ∷ granules ∷ drop (headingLength * k + headingLength) (now (headings .entry))) ⌝ }
 {
     let at = HEADING_LENGTH * k;
     headings[at] = start;
     headings[at + 1] = period;
     headings[at + 2] = distance;
+    headings[at + 3] = granules;
 }
 
-// The checks of an operation over rows of the pool.
+// The checks of an operation over rows of the pool: 7 by their granules, then the others.
 fn check_in(kind: Kind, room: i64, pool: &[i32], a: Operand, b: Operand) -> Checked
     requires { ⌜ Numbers kind ⌝ }
     requires { ⌜ SoundFirst (operands kind) (rowIn (now pool) a) (rowIn (now pool) b) ⌝ }
+    requires { ⌜ CountedFirst (operands kind) (now pool) a b ⌝ }
     requires { ⌜ Before (length (now pool)) a ⌝ }
     requires { ⌜ Before (length (now pool)) b ⌝ }
     requires { ⌜ length (now pool) ≤ poolLimit ⌝ }
     requires { ⌜ (pos 0 ≤ℤ room) × (room ≤ℤ pos poolLimit) ⌝ }
     ensures { λ r. ⌜ checkedReply r ≡ admission (over kind (now (pool .entry)) a b) (up room) ⌝ }
 {
+    if !operand_checks::are_full(kind, a, b) {
+        return Checked::Refused(Refusal::OperandNotFull);
+    }
     let a_start = a.start;
     let a_end = fill_shared::end_of(a, pool.len());
     let b_start = b.start;
@@ -96,15 +110,25 @@ fn check_in(kind: Kind, room: i64, pool: &[i32], a: Operand, b: Operand) -> Chec
     )
 }
 
-// The least period of the working row from `used` on.
-fn least_of(period: i64, distance: i64, used: usize, pool: &[i32]) -> i64
+// The period and the granules of a least row.
+struct Shape {
+    period: i64,
+    granules: i64,
+}
+
+// The shape of the least row of the working row from `used` on.
+fn least_of(period: i64, distance: i64, used: usize, pool: &[i32]) -> Shape
     requires { ⌜ Worked period distance used (now pool) ⌝ }
-    ensures { λ r. ⌜ r ≡ pos (least (given period distance (take (up period) (drop used (now (pool .entry))))) .period) ⌝ }
+    ensures period { λ r. ⌜ r .period ≡ pos (least (given period distance (take (up period) (drop used (now (pool .entry))))) .period) ⌝ }
+    ensures granules { λ r. ⌜ r .granules ≡ pos (G.granules (least (given period distance (take (up period) (drop used (now (pool .entry))))))) ⌝ }
 {
     let end = used + period as usize;
     let granules = counts::granules(&pool[used..end], period, distance);
     let found = least_form::least_period(&pool[used..end], period, distance, granules);
-    found.period
+    Shape {
+        period: found.period,
+        granules: least_form::least_granules(period, granules, found.period),
+    }
 }
 
 // Writes the heading of the least row of the working row from `used` on; the answer is the cell behind the least row.
@@ -121,15 +145,16 @@ fn finish(
     ensures { λ r. ⌜ Added k used (now (headings .entry)) (now (pool .entry)) (least (given period distance (take (up period) (drop used (now (pool .entry)))))) r (now (headings .exit)) (now (pool .entry)) ⌝ }
 {
     let least = least_of(period, distance, used, pool);
-    let rise = least_form::least_distance(period, distance, least);
+    let rise = least_form::least_distance(period, distance, least.period);
     write_heading(
         headings,
         k,
         number(used as i64),
-        number(least),
+        number(least.period),
         number(rise),
+        number(least.granules),
     );
-    used + least as usize
+    used + least.period as usize
 }
 
 // Fills in the working row of an operation that has passed its checks, and enters its least row.

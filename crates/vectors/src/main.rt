@@ -1,4 +1,4 @@
-// Converts stored tables and prints what comes of each: its refusal, or a line for each row with period, distance and cells, "." for no label. The
+// Converts stored tables and prints what comes of each: its refusal, or a line for each row with period, distance, slots and cells, "." for no label. The
 // tables and what is to be printed are written by the second implementation (rust/src/vectors.rs).
 
 use conversion::Conversion;
@@ -9,11 +9,16 @@ use printing::print_turn;
 
 mod tables;
 
+// How many numbers an entry of a table has.
+const ENTRY_LENGTH: usize = 6;
+
 // The row of a heading.
-fn print_row(start: u32, period: u32, distance: u32, pool: &[i32]) {
+fn print_row(start: u32, period: u32, distance: u32, granules: u32, pool: &[i32]) {
     io::print_decimal(1, period as u64);
     print(b" ");
     io::print_decimal(1, distance as u64);
+    print(b" ");
+    io::print_decimal(1, granules as u64);
     let from = start as usize;
     if from <= pool.len() {
         print_turn(&pool[from..], period as usize, 0, 0);
@@ -25,15 +30,21 @@ fn print_row(start: u32, period: u32, distance: u32, pool: &[i32]) {
 fn print_rows(headings: &[u32], pool: &[i32]) {
     let mut at = 0;
     while HEADING_LENGTH <= headings.len() - at {
-        print_row(headings[at], headings[at + 1], headings[at + 2], pool);
+        print_row(
+            headings[at],
+            headings[at + 1],
+            headings[at + 2],
+            headings[at + 3],
+            pool,
+        );
         at += HEADING_LENGTH;
     }
 }
 
-// Converts a table and prints what comes of it. A heading has half as many numbers as an entry.
+// Converts a table and prints what comes of it.
 fn print_table(table: &[i32], headings: &mut [u32], pool: &mut [i32]) {
     let converted = conversion::convert(table, &mut *headings, &mut *pool);
-    let n = table.len() / 2;
+    let n = table.len() / ENTRY_LENGTH * HEADING_LENGTH;
     match converted {
         Conversion::Refused(number, entry) => print_refusal(number, entry),
         Conversion::Converted => {

@@ -1,5 +1,5 @@
-// Converts a table of the slots of document 01 that are worked by hand, and prints their rows. Of each calendar it gives the period, the distance
-// and the labels of three turns of its row: the turn before instant 0, the row itself and the next turn. "." is an instant with no label.
+// Converts a table of the slots of document 01 that are worked by hand, and prints their rows. Of each calendar it gives the period, the distance, the slots
+// per period and the labels of three turns of its row: the turn before instant 0, the row itself and the next turn. "." is an instant with no label.
 
 use conversion::Conversion;
 use conversion::HEADING_LENGTH;
@@ -56,12 +56,14 @@ fn print_turns(start: u32, period: u32, distance: u32, pool: &[i32]) {
     print_turn(cells, n, 0, distance);
 }
 
-fn print_row(name: &[u8], start: u32, period: u32, distance: u32, pool: &[i32]) {
+fn print_row(name: &[u8], start: u32, period: u32, distance: u32, granules: u32, pool: &[i32]) {
     print(name);
     print(b": period ");
     io::print_decimal(1, period as u64);
     print(b", distance ");
     io::print_decimal(1, distance as u64);
+    print(b", slots ");
+    io::print_decimal(1, granules as u64);
     print(b"\n   ");
     print_turns(start, period, distance, pool);
     print(b"\n");
@@ -71,7 +73,14 @@ fn print_row(name: &[u8], start: u32, period: u32, distance: u32, pool: &[i32]) 
 fn print_entry(name: &[u8], k: usize, headings: &[u32], pool: &[i32]) {
     if k < headings.len() / HEADING_LENGTH {
         let at = k * HEADING_LENGTH;
-        print_row(name, headings[at], headings[at + 1], headings[at + 2], pool);
+        print_row(
+            name,
+            headings[at],
+            headings[at + 1],
+            headings[at + 2],
+            headings[at + 3],
+            pool,
+        );
     }
 }
 
@@ -102,7 +111,7 @@ fn print_table(table: &[i32], headings: &mut [u32], pool: &mut [i32]) {
 
 fn main() {
     let numbers = table();
-    let mut headings = [0u32; 45];
+    let mut headings = [0u32; HEADING_LENGTH * 15];
     let mut pool = [0i32; 128];
     print_table(&numbers, &mut headings, &mut pool);
 }

@@ -1,7 +1,7 @@
 //! How long conversion takes: the proved core beside the second implementation.
 
 use jogipahn_compare::core;
-use jogipahn_compare::second::{self, CELL_LIMIT, EMPTY};
+use jogipahn_compare::second::{self, CELL_LIMIT, EMPTY, ENTRY_NUMBERS, HEADING_NUMBERS};
 use jogipahn_compare::timing::{keep_memory, readable, take_turns, Rounds};
 
 type Entry = [i32; 6];
@@ -23,9 +23,14 @@ fn but_first(b: i32) -> Entry {
     [6, 0, b, 2, 1_000_000, 0]
 }
 
+/// How many numbers the headings of a table have.
+fn heading_numbers(table: &[i32]) -> usize {
+    table.len() / ENTRY_NUMBERS * HEADING_NUMBERS
+}
+
 /// The shortest pool in which the table's answer is that of the longest.
 fn least_pool(table: &[i32]) -> usize {
-    let mut headings = vec![0; table.len() / 2];
+    let mut headings = vec![0; heading_numbers(table)];
     let mut pool = vec![EMPTY; CELL_LIMIT];
     let answer = second::convert(table, &mut headings, &mut pool);
     let (mut low, mut high) = (0, CELL_LIMIT);
@@ -61,7 +66,7 @@ impl Case {
     fn new(name: &str, entries: &[Entry], cells: usize) -> Self {
         let table = entries.as_flattened().to_vec();
         let lists = || Lists {
-            headings: vec![0; table.len() / 2],
+            headings: vec![0; heading_numbers(&table)],
             pool: vec![EMPTY; cells],
         };
         let (mut core, mut second) = (lists(), lists());
@@ -75,7 +80,10 @@ impl Case {
             "{name}: lists differ"
         );
         let told = match answer {
-            Ok(()) => format!("last row {:>9}", core.headings[core.headings.len() - 2]),
+            Ok(()) => {
+                let last = &core.headings[core.headings.len() - HEADING_NUMBERS..];
+                format!("last row {:>9}", last[1])
+            }
             Err((number, entry)) => format!("refused {number} at {entry:<5}"),
         };
         Case {

@@ -8,9 +8,9 @@ use super::{CELL_LIMIT, EMPTY, ENTRY_LIMIT, ENTRY_NUMBERS, HEADING_NUMBERS, LABE
 /// Converts a table.
 ///
 /// Answered, the pool holds the least row of each entry one behind the other
-/// and "." behind the last, and the headings hold start, period and distance of
-/// each entry and zero behind the last. A refusal is told by its number and
-/// entry, every cell is "." then and every heading zero.
+/// and "." behind the last, and the headings hold start, period, distance and
+/// slots per period of each entry and zero behind the last. A refusal is told by
+/// its number and entry, every cell is "." then and every heading zero.
 pub fn convert(table: &[i32], headings: &mut [u32], pool: &mut [i32]) -> Result<(), (u32, u32)> {
     let answer = convert_all(table, headings, pool);
     if answer.is_err() {
@@ -33,6 +33,11 @@ pub(crate) struct Stored {
 }
 
 impl Stored {
+    fn heading(&self) -> [u32; HEADING_NUMBERS] {
+        let (start, period) = (self.start as u32, self.period as u32);
+        [start, period, self.distance as u32, self.slots as u32]
+    }
+
     pub fn is_full(&self) -> bool {
         self.slots == self.distance
     }
@@ -59,7 +64,7 @@ fn convert_all(table: &[i32], headings: &mut [u32], pool: &mut [i32]) -> Result<
     }
     headings.fill(0);
     for (heading, row) in headings.chunks_exact_mut(HEADING_NUMBERS).zip(&stored) {
-        heading.copy_from_slice(&[row.start as u32, row.period as u32, row.distance as u32]);
+        heading.copy_from_slice(&row.heading());
     }
     pool[used..].fill(EMPTY);
     Ok(())

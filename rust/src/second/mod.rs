@@ -1,4 +1,4 @@
-//! The second implementation of document 01.
+//! The second implementation of documents 01 and 02.
 //!
 //! It is written from the paper alone and shares nothing with the proved core:
 //! a kind that looks at slots writes its operands out over the span, lists
@@ -31,5 +31,6 @@ pub const ENTRY_LIMIT: usize = 64;
 /// How many numbers make up an entry of a table.
 pub const ENTRY_NUMBERS: usize = 6;
 
-/// How many numbers make up a heading: start, period, distance.
-pub const HEADING_NUMBERS: usize = 3;
+/// How many numbers make up a heading: start, period, distance, and the slots
+/// per period.
+pub const HEADING_NUMBERS: usize = 4;

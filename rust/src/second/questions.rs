@@ -106,11 +106,14 @@ fn list_parts(h: Row, g: Row, z: i64, parts: &mut [i64]) -> Result<usize, u32> {
     Ok(count)
 }
 
-/// The open part of the instants, the mean slot length, the mean spacing.
-pub fn figures(row: Row) -> Result<(f64, f64, f64), u32> {
+/// The open part of the instants, the mean slot length, the mean spacing. The
+/// slots per period are handed in, and have to be those of the row.
+pub fn figures(row: Row, slots: i64) -> Result<(f64, f64, f64), u32> {
     let calendar = Calendar::tested(row)?;
+    if slots != calendar.slots_per_period() {
+        return Err(13);
+    }
     let open = calendar.cells.iter().filter(|&&cell| cell != EMPTY).count() as i64;
-    let slots = calendar.slots_per_period();
     Ok((
         quotient(open, calendar.period),
         quotient(open, slots),
@@ -497,10 +500,22 @@ mod tests {
 
     #[test]
     fn figures_are_single_divisions() {
-        assert_eq!(figures(W), Ok((1.0, 7.0, 7.0)));
-        assert_eq!(figures(B), Ok((5.0 / 7.0, 1.0, 7.0 / 5.0)));
-        assert_eq!(figures(WORKING_WEEK), Ok((5.0 / 7.0, 5.0, 7.0)));
-        assert_eq!(figures(row(&[NONE], 1, 1)), Err(13));
+        assert_eq!(figures(W, 1), Ok((1.0, 7.0, 7.0)));
+        assert_eq!(figures(B, 5), Ok((5.0 / 7.0, 1.0, 7.0 / 5.0)));
+        assert_eq!(figures(WORKING_WEEK, 1), Ok((5.0 / 7.0, 5.0, 7.0)));
+        assert_eq!(figures(row(&[NONE], 1, 1), 0), Err(13));
+    }
+
+    #[test]
+    fn figures_take_the_slots_of_the_row_itself() {
+        // Not the distance, and nothing that only looks like 5.
+        for slots in [4, 6, 7, 0, -5, (5 << 32) + 5, i64::MIN, i64::MAX] {
+            assert_eq!(figures(B, slots), Err(13), "{slots}");
+        }
+        // Two weeks in one row have two slots, whatever the least form has.
+        let weeks = [0, 1, 1, 1, 1, 1, 1, 1, 2, 2, 2, 2, 2, 2];
+        assert_eq!(figures(row(&weeks, 14, 2), 2), Ok((1.0, 7.0, 7.0)));
+        assert_eq!(figures(row(&weeks, 14, 2), 1), Err(13));
     }
 
     #[test]
@@ -567,7 +582,7 @@ mod tests {
                 "{} cells",
                 row.cells.len()
             );
-            assert_eq!(figures(row), Err(13));
+            assert!((-1..=2).all(|slots| figures(row, slots) == Err(13)));
             assert_eq!(may_be_late(row, 0, -1, Allowance::Fixed(-1.0)), Err(13));
         }
         assert_eq!(

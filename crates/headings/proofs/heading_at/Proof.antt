@@ -46,16 +46,25 @@ mul-t17 c = search needs
 element-copy-out-t20 : tie.Need-element-copy-out-t20
 element-copy-out-t20 c = search needs
 
+add-t21 : tie.Need-add-t21
+add-t21 c = search needs
+
+mul-t22 : tie.Need-mul-t22
+mul-t22 c = search needs
+
+element-copy-out-t25 : tie.Need-element-copy-out-t25
+element-copy-out-t25 c = search needs
+
 returns : tie.Need-returns
 returns c = search needs
 
--- there are three numbers for each entry that a table may have
+-- there are four numbers for each entry that a table may have
 count : (m : Made) (vs : List Val) → Is D.the-row m vs → length (m .plain) ≡ (headingLength * entryLimit)
 count m vs is = sym (length-map (m .plain) (λ v. v)) ∙ LL.owed D.the-type D′.the-laws m vs is .1 .0 .1 .0 .1
 
 past : (plain : List ℕ) (i : ℕ) → length plain ≡ (headingLength * entryLimit) → entryLimit ≤ i → noHeading ≡ recordAt plain i
 past plain i e h =
-    sym (record-ext (List·getD-eq-default plain 0 (omega arith)) (List·getD-eq-default plain 0 (omega arith)) (List·getD-eq-default plain 0 (omega arith)))
+    sym (record-ext (List·getD-eq-default plain 0 (omega arith)) (List·getD-eq-default plain 0 (omega arith)) (List·getD-eq-default plain 0 (omega arith)) (List·getD-eq-default plain 0 (omega arith)))
 
 returns-2 : tie.Need-returns-2
 returns-2 c = past (c .before .args .t1 .plain) (c .before .args .i) (count (c .before .args .t1) _ (c .before .good .0)) (c .if1 .left)
@@ -73,5 +82,8 @@ heading-at-spec =
     add-t16
     mul-t17
     element-copy-out-t20
+    add-t21
+    mul-t22
+    element-copy-out-t25
     returns
     returns-2)

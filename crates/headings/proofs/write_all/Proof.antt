@@ -96,7 +96,7 @@ module _ {M : Type 1} (𝓤 : URA M) (H : Heap 𝓤) (A : Atoms 𝓤) (W : Given
           land ! (from ! (stop !)) (init ! 9 refl (typed r u is)) $
           assigns ! (bin ! (cell ! 15 refl) (lit ! tt) (record { fits = times less })) (from ! (stop !)) (store ! 13 refl (tt, record { fits = times less })) $
           puts ! 7 (bin ! (part ! 19 0 refl refl refl) (cell ! 13 refl) tt) refl (tt, tt) $
-          rewrite ! 7 (λ (k : ℕ). ‵ (fat fullShare (ty 7) l₇ 0 (vptr b k))) (sym (place-is 12 o (i .0))) refl $
+          rewrite ! 7 (λ (k : ℕ). ‵ (fat fullShare (ty 7) l₇ 0 (vptr b k))) (sym (place-is 16 o (i .0))) refl $
           -- the record's place is taken out of the row, stored to, and put back
           move ! (3 ∷ []) $ elem-out ! T.the-row (Is T.the-row) (shows 𝓤 H A T.the-row) (LL.vals T.the-type T′.the-laws) (LL.tells T.the-type T′.the-laws) fullShare (zs (i .0)) (i .0) r b o (within less) (λ _.
           assigns ! (of-opd ! (cell ! 11 refl)) (from ! (hop ! (look ! 9 refl) (stop !))) (store-raw ! 0 refl (typed r u is)) $
@@ -117,7 +117,7 @@ module _ {M : Type 1} (𝓤 : URA M) (H : Heap 𝓤) (A : Atoms 𝓤) (W : Given
           under : Holds (ltb (i .0) n) → i .0 < n
           under less = ltb→lt (i .0) n less
 
-          times : Holds (ltb (i .0) n) → i .0 * 12 < 2 ^ 64
+          times : Holds (ltb (i .0) n) → i .0 * 16 < 2 ^ 64
           times less = omega (arith, room .1, i .1)
 
           within : Holds (ltb (i .0) n) → i .0 < length (zs (i .0))

@@ -2,73 +2,26 @@
 -- Assumes nothing.
 use mathlib.Core.Path.{_≡_, _∙_, ap}
 use mathlib.Core.List.{List}
-use Prim.Native.Nat.{_*_, _≤_}
-use native.Mathlib.Nat.{mul-le-mul}
-use native.Mathlib.Omega.{arith}
-use lib.IntN.{ℤ, pos, negsuc, _*ℤ_}
-use lib.Signed.{_≤ℤ_, _<ℤ_, quotZ}
-use mir.Syntax.{w64}
-use mir.Val.{SFits}
+use Prim.Native.Nat.{_*_}
+use lib.IntN.{ℤ, pos, _*ℤ_}
+use lib.Signed.{quotZ}
 use Rattle.integers.specs.Parts.{up}
-use Rattle.integers.proofs.Linear.{ints, _∴_}
 use Rattle.integers.proofs.Machine.{plain}
 use Rattle.integers.proofs.Divide.{div-needs}
-use Rattle.calendar.specs.Limits.{poolLimit}
 use Rattle.calendar.specs.Least.{least}
 use Rattle.calendar.specs.Questions.{given}
-use Rattle.granules.proofs.Numbers.{Numbers, numbers}
-use Rattle.granules.proofs.Sound.{sound-valid}
-use Rattle.granules.proofs.Least.{least-row, least-shorter}
 use Rattle.least_form.specs.Row.{IsLeast}
+use Rattle.least_form.proofs.Small.{Small, small-pos, product-fits, known, small-period, small-distance, small-least}
 use Rattle.least_form.proofs.least_distance.Statement.{statement}
 use Rattle.least_form.proofs.least_distance.Tie as tie
 
--- ---- numbers from 1 to poolLimit
-record Small (z : ℤ) : Type 0 where
-  low : pos 1 ≤ℤ z
-  high : z ≤ℤ pos poolLimit
-
-small-pos : {z : ℤ} → Small z → pos 0 <ℤ z
-small-pos {z} h = h .low ∴ simp ints (omega arith)
-
-product-fits : {y z : ℤ} → Small y → Small z → SFits w64 (y *ℤ z)
-product-fits {y = pos m} {z = pos n} h k =
-    let a : m ≤ poolLimit = omega (arith, simp ints at (h .high)) in
-    let b : n ≤ poolLimit = omega (arith, simp ints at (k .high)) in
-    simp ints (omega (arith, mul-le-mul a b))
-product-fits {y = pos m} {z = negsuc n} h k = absurd (k .low .le)
-product-fits {y = negsuc m} {z} h k = absurd (h .low .le)
-
--- ---- the numbers of the row
 module _ (period distance q : ℤ) (cells : List ℤ) (h : IsLeast period distance q cells) where
-  known : Numbers period distance cells
-  known = numbers period distance cells (h .passed)
-
-  small-period : Small period
-  small-period = record {
-    low = known .period-is ∴ known .low ∴ known .middle ∴ simp ints (omega arith);
-    high = known .period-is ∴ known .high ∴ simp ints (omega arith);
-  }
-
-  small-distance : Small distance
-  small-distance = record {
-    low = known .distance-is ∴ known .low ∴ simp ints (omega arith);
-    high = known .distance-is ∴ known .middle ∴ known .high ∴ simp ints (omega arith);
-  }
-
-  small-least : Small q
-  small-least =
-      let v = sound-valid (given period distance cells) (h .passed) in
-      let l : 1 ≤ least (given period distance cells) .period = least-row (given period distance cells) v .positive .0 in
-      let u : least (given period distance cells) .period ≤ up period = least-shorter (given period distance cells) v in
-      record { low = h .is ∴ l ∴ simp ints (omega arith); high = h .is ∴ u ∴ known .high ∴ simp ints (omega arith) }
-
   quotient-is : quotZ (distance *ℤ q) period ≡ pos (least (given period distance cells) .distance)
   unfolding least
   quotient-is =
-      ap (λ (z : ℤ). quotZ (z *ℤ q) period) (known .distance-is)
+      ap (λ (z : ℤ). quotZ (z *ℤ q) period) (known period distance q cells h .distance-is)
       ∙ ap (λ (z : ℤ). quotZ (pos (up distance) *ℤ z) period) (h .is)
-      ∙ ap (λ (z : ℤ). quotZ (pos (up distance * least (given period distance cells) .period)) z) (known .period-is)
+      ∙ ap (λ (z : ℤ). quotZ (pos (up distance * least (given period distance cells) .period)) z) (known period distance q cells h .period-is)
 
 -- all three are small
 record AllSmall (c : tie.Start) : Type 0 where

@@ -1,6 +1,7 @@
 -- `operand_checks::check` meets its contract: each kind is checked as its `..-is` law says.
 -- Assumes nothing.
 use mathlib.Core.Path.{_≡_, sym, _∙_, ap, ap₂, subst}
+use mathlib.Core.Bool.{true}
 use native.Mathlib.Omega.{arith}
 use borrow.Author.Needs.{needs, sfits-of}
 use lib.IntN.{ℤ, pos}
@@ -11,15 +12,17 @@ use Rattle.integers.proofs.Linear.{ints, _∴_}
 use Rattle.integers.proofs.Machine.{plain}
 use Rattle.calendar.specs.Meaning.{Row}
 use Rattle.calendar.specs.Granules.{granules}
+use Rattle.calendar.specs.Checks.{fullOperands}
 use Rattle.calendar.specs.Questions.{given}
 use Rattle.calendar.specs.Reply.{Reply}
 use Rattle.cursors.proofs.Numbers.{numbers}
+use Rattle.alignment.proofs.Rising.{limited}
 use Rattle.kinds.specs.declared.Kind.{Kind}
 use Rattle.kinds.specs.Operations.{operationOf, operands, Numbers, SoundFirst}
 use Rattle.operand_checks.specs.declared.Extent.{Extent}
 use Rattle.operand_checks.specs.Admission.{admission}
 use Rattle.operand_checks.specs.Shared.{wholeTurn, fitted}
-use Rattle.operand_checks.proofs.Replies.{bottom-is, shift-is, renumber-is, combine-is, select-is, by-labels-is}
+use Rattle.operand_checks.proofs.Replies.{bottom-is, shift-is, renumber-is, group-is, combine-is, select-is, by-labels-is, anchor-is, alter-full}
 use Rattle.operand_checks.proofs.check.Statement.{statement}
 use Rattle.operand_checks.proofs.check.Tie as tie
 
@@ -37,6 +40,9 @@ answered s k = admission (operationOf k (row-a s) (row-b s)) (up (s .args .room)
 sounds : (s : tie.Start) {k : Kind} → s .args .kind ≡ k → SoundFirst (operands k) (row-a s) (row-b s)
 sounds s e = subst (λ (k : Kind). SoundFirst (operands k) (row-a s) (row-b s)) e (s .pre .1 .0)
 
+fulls : (s : tie.Start) {k : Kind} → s .args .kind ≡ k → fullOperands (operationOf k (row-a s) (row-b s)) ≡ true
+fulls s e = subst (λ (k : Kind). fullOperands (operationOf k (row-a s) (row-b s)) ≡ true) e (s .pre .1 .1 .0)
+
 limits : (s : tie.Start) {k : Kind} → s .args .kind ≡ k → Numbers k
 limits s e = subst Numbers e (s .pre .0)
 
@@ -52,15 +58,15 @@ enum-known-kind c = search needs
 x-fits : (c : tie.After-known-told) → SFits w64 (c .before .kind .given .0 .0)
 x-fits c = let l = limits (c .before .before .before) (c .before .kind .given .1) in l .0 ∴ l .1 ∴ simp ints (omega arith)
 
-group-requires : tie.Need-group-requires
-group-requires c κs =
+grouped-requires : tie.Need-grouped-requires
+grouped-requires c κs =
     let s = c .before .before .before in
     let e = c .before .kind .given .1 in
     let x = x-fits c in
     let r = s .fits .room in
     let p = s .fits .a-period in
     let n = s .fits .a-distance in
-    simp plain (limits s e, (s .pre .1 .1, sounds s e .0))
+    simp plain (limits s e .0, (s .pre .1 .1 .1, limited _ _ _ (sounds s e .0)))
 
 enum-told-2 : tie.Need-enum-told-2
 enum-told-2 c = search needs
@@ -94,7 +100,7 @@ alter-requires c κs =
     let n = s .fits .a-distance in
     let q = s .fits .b-period in
     let m = s .fits .b-distance in
-    simp plain (limits s e, (s .pre .1 .1, (sounds s e .0, sounds s e .1)))
+    simp plain (limits s e, (s .pre .1 .1 .1, (sounds s e .0, (sounds s e .1, alter-full (row-a s) (row-b s) (up (s .args .room)) _ _ _ (fulls s e)))))
 
 enum-told-4 : tie.Need-enum-told-4
 enum-told-4 c = search needs
@@ -108,7 +114,7 @@ spanned-requires c κs =
     let n = s .fits .a-distance in
     let q = s .fits .b-period in
     let m = s .fits .b-distance in
-    simp plain (sounds s e .0, (sounds s e .1, s .pre .1 .1))
+    simp plain (sounds s e .0, (sounds s e .1, s .pre .1 .1 .1))
 
 enum-told-5 : tie.Need-enum-told-5
 enum-told-5 c = search needs
@@ -122,13 +128,13 @@ spanned-requires-2 c κs =
     let n = s .fits .a-distance in
     let q = s .fits .b-period in
     let m = s .fits .b-distance in
-    simp plain (sounds s e .0, (sounds s e .1, s .pre .1 .1))
+    simp plain (sounds s e .0, (sounds s e .1, s .pre .1 .1 .1))
 
 enum-told-6 : tie.Need-enum-told-6
 enum-told-6 c = search needs
 
-anchor-requires : tie.Need-anchor-requires
-anchor-requires c κs =
+spanned-requires-3 : tie.Need-spanned-requires-3
+spanned-requires-3 c κs =
     let s = c .before .before in
     let e = c .enum-told6 .given .1 in
     let r = s .fits .room in
@@ -136,13 +142,13 @@ anchor-requires c κs =
     let n = s .fits .a-distance in
     let q = s .fits .b-period in
     let m = s .fits .b-distance in
-    simp plain (sounds s e .0, (sounds s e .1, s .pre .1 .1))
+    simp plain (sounds s e .0, (sounds s e .1, s .pre .1 .1 .1))
 
 enum-told-7 : tie.Need-enum-told-7
 enum-told-7 c = search needs
 
-spanned-requires-3 : tie.Need-spanned-requires-3
-spanned-requires-3 c κs =
+spanned-requires-4 : tie.Need-spanned-requires-4
+spanned-requires-4 c κs =
     let s = c .before .before in
     let e = c .enum-told7 .given .1 in
     let r = s .fits .room in
@@ -150,7 +156,7 @@ spanned-requires-3 c κs =
     let n = s .fits .a-distance in
     let q = s .fits .b-period in
     let m = s .fits .b-distance in
-    simp plain (sounds s e .0, (sounds s e .1, s .pre .1 .1))
+    simp plain (sounds s e .0, (sounds s e .1, s .pre .1 .1 .1))
 
 returns : tie.Need-returns
 returns c =
@@ -165,7 +171,8 @@ returns-2 c =
     let r = s .fits .room in
     let p = s .fits .a-period in
     let n = s .fits .a-distance in
-    simp plain at (c .group .ensures) ∙ ap (answered s) (sym (c .before .before .kind .given .1))
+    let e = c .before .before .kind .given .1 in
+    simp plain at (c .grouped .ensures) ∙ sym (group-is _ (row-a s) (up (s .args .room)) (fulls s e)) ∙ ap (answered s) (sym e)
 
 returns-3 : tie.Need-returns-3
 returns-3 c =
@@ -234,7 +241,8 @@ returns-8 c =
     let n = s .fits .a-distance in
     let q = s .fits .b-period in
     let m = s .fits .b-distance in
-    simp plain at (c .anchor .ensures) ∙ ap (answered s) (sym (c .before .enum-told6 .given .1))
+    let e = c .before .enum-told6 .given .1 in
+    simp plain at (c .spanned3 .ensures) ∙ sym (anchor-is (row-a s) (row-b s) (up (s .args .room)) (fulls s e)) ∙ ap (answered s) (sym e)
 
 returns-9 : tie.Need-returns-9
 returns-9 c =
@@ -244,7 +252,7 @@ returns-9 c =
     let n = s .fits .a-distance in
     let q = s .fits .b-period in
     let m = s .fits .b-distance in
-    simp plain at (c .spanned3 .ensures) ∙ sym (by-labels-is (row-a s) (row-b s) (up (s .args .room)) _) ∙ ap (answered s) (sym (c .before .enum-told7 .given .1))
+    simp plain at (c .spanned4 .ensures) ∙ sym (by-labels-is (row-a s) (row-b s) (up (s .args .room)) _) ∙ ap (answered s) (sym (c .before .enum-told7 .given .1))
 
 pub check-spec : {M : Type 1} → statement M
 check-spec =
@@ -253,7 +261,7 @@ check-spec =
     enum-told
     whole-requires
     enum-known-kind
-    group-requires
+    grouped-requires
     enum-told-2
     whole-requires-2
     enum-told-3
@@ -266,9 +274,9 @@ check-spec =
     enum-told-5
     spanned-requires-2
     enum-told-6
-    anchor-requires
-    enum-told-7
     spanned-requires-3
+    enum-told-7
+    spanned-requires-4
     returns
     returns-2
     returns-3

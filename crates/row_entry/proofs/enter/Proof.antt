@@ -27,8 +27,11 @@ check-in-requires c κs =
       (
         e .sounds,
         (
-          record { period = e .a-before .period; ends = omega arith },
-          (record { period = e .b-before .period; ends = omega arith }, (e .at-most, number-limits (length (s .args .pool .now) - s .args .used) (omega arith))),
+          e .counted,
+          (
+            record { period = e .a-before .period; ends = omega arith },
+            (record { period = e .b-before .period; ends = omega arith }, (e .at-most, number-limits (length (s .args .pool .now) - s .args .used) (omega arith))),
+          ),
         ),
       ),
     )

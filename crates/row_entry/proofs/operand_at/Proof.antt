@@ -1,4 +1,4 @@
--- `row_entry::operand_at` meets its contract: it reads the three numbers of the heading.
+-- `row_entry::operand_at` meets its contract: it reads the four numbers of the heading.
 -- Assumes nothing.
 use Prim.Native.Nat.{_+_, _*_}
 use native.Mathlib.Omega.{arith}
@@ -44,12 +44,25 @@ shared-slice-read-t16 c = search needs
 cast-t17 : tie.Need-cast-t17
 cast-t17 c = wide-number _ (c .shared-slice-known3 .given (headingLength * c .before .before .before .args .j + 2)) .0
 
+add-t18 : tie.Need-add-t18
+add-t18 c = search needs
+
+mul-t19 : tie.Need-mul-t19
+mul-t19 c = search needs
+
+shared-slice-read-t21 : tie.Need-shared-slice-read-t21
+shared-slice-read-t21 c = search needs
+
+cast-t22 : tie.Need-cast-t22
+cast-t22 c = wide-number _ (c .shared-slice-known4 .given (headingLength * c .before .before .before .before .args .j + 3)) .0
+
 returns : tie.Need-returns
 returns c =
-    let j = c .before .before .before .args .j in
-    let p = wide-number _ (c .before .shared-slice-known2 .given (headingLength * j + 1)) .1 in
-    let d = wide-number _ (c .shared-slice-known3 .given (headingLength * j + 2)) .1 in
-    rw (p, d)
+    let j = c .before .before .before .before .args .j in
+    let p = wide-number _ (c .before .before .shared-slice-known2 .given (headingLength * j + 1)) .1 in
+    let d = wide-number _ (c .before .shared-slice-known3 .given (headingLength * j + 2)) .1 in
+    let g = wide-number _ (c .shared-slice-known4 .given (headingLength * j + 3)) .1 in
+    rw (p, d, g)
 
 pub operand-at-spec : {M : Type 1} → statement M
 operand-at-spec =
@@ -67,4 +80,8 @@ operand-at-spec =
     mul-t14
     shared-slice-read-t16
     cast-t17
+    add-t18
+    mul-t19
+    shared-slice-read-t21
+    cast-t22
     returns)

@@ -1,10 +1,10 @@
--- `row_entry::write_heading` meets its contract: three stores, one behind the other.
+-- `row_entry::write_heading` meets its contract: four stores, one behind the other.
 -- Assumes nothing.
 use Prim.Native.Nat.{_*_}
 use native.Mathlib.Omega.{arith}
 use lib.ListN.{length-set}
 use Rattle.calendar.specs.Limits.{headingLength}
-use Rattle.row_entry.proofs.Cells.{three-stored}
+use Rattle.row_entry.proofs.Cells.{four-stored}
 use borrow.Author.Needs.{needs}
 use Rattle.row_entry.proofs.write_heading.Statement.{statement}
 use Rattle.row_entry.proofs.write_heading.Tie as tie
@@ -36,11 +36,22 @@ mul-headings-3 c = search needs
 slice-write-headings-3 : tie.Need-slice-write-headings-3
 slice-write-headings-3 c = simp length-set (omega arith)
 
+add-headings-3 : tie.Need-add-headings-3
+add-headings-3 c = search needs
+
+mul-headings-4 : tie.Need-mul-headings-4
+mul-headings-4 c = search needs
+
+slice-write-headings-4 : tie.Need-slice-write-headings-4
+slice-write-headings-4 c = simp length-set (omega arith)
+
 same-length : tie.Need-same-length
 same-length c = search needs
 
 returns : tie.Need-returns
-returns c = three-stored (c .args .headings .now) (headingLength * c .args .k) (c .args .start) (c .args .period) (c .args .distance) (omega arith)
+returns c =
+    let a = c .args in
+    four-stored (a .headings .now) (headingLength * a .k) (a .start) (a .period) (a .distance) (a .granules) (omega arith)
 
 pub write-heading-spec : {M : Type 1} → statement M
 write-heading-spec =
@@ -55,5 +66,8 @@ write-heading-spec =
     add-headings-2
     mul-headings-3
     slice-write-headings-3
+    add-headings-3
+    mul-headings-4
+    slice-write-headings-4
     same-length
     returns)

@@ -42,6 +42,15 @@ mul-print-row-3 c = search needs
 shared-slice-read-print-row-3 : tie.Need-shared-slice-read-print-row-3 Inv-loop μ-loop
 shared-slice-read-print-row-3 c = search needs
 
+add-print-row-3 : tie.Need-add-print-row-3 Inv-loop μ-loop
+add-print-row-3 c = search needs
+
+mul-print-row-4 : tie.Need-mul-print-row-4 Inv-loop μ-loop
+mul-print-row-4 c = search needs
+
+shared-slice-read-print-row-4 : tie.Need-shared-slice-read-print-row-4 Inv-loop μ-loop
+shared-slice-read-print-row-4 c = search needs
+
 print-row-requires : tie.Need-print-row-requires Inv-loop μ-loop
 print-row-requires c κs = search needs
 
@@ -73,6 +82,9 @@ print-rows-spec =
     add-print-row-2
     mul-print-row-3
     shared-slice-read-print-row-3
+    add-print-row-3
+    mul-print-row-4
+    shared-slice-read-print-row-4
     print-row-requires
     add-at
     loop-less

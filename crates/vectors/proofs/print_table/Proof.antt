@@ -9,6 +9,9 @@ use Rattle.vectors.proofs.print_table.Tie as tie
 convert-requires : tie.Need-convert-requires
 convert-requires c κs = search needs
 
+mul-n : tie.Need-mul-n
+mul-n c = search needs
+
 enum-known-converted : tie.Need-enum-known-converted
 enum-known-converted c = search needs
 
@@ -59,6 +62,7 @@ print-table-spec =
     tie.close
     (tie.spec
     convert-requires
+    mul-n
     enum-known-converted
     print-refusal-requires
     enum-told

@@ -9,7 +9,8 @@ const NONE: i32 = EMPTY;
 type Rows = Vec<(u32, u32, Vec<i32>)>;
 
 fn converted(table: &[[i32; 6]], cells: usize) -> Result<Rows, (u32, u32)> {
-    let mut headings = vec![77; 3 * table.len() + 5];
+    let numbers = HEADING_NUMBERS * table.len();
+    let mut headings = vec![77; numbers + 5];
     let mut pool = vec![77; cells];
     let answer = convert(table.as_flattened(), &mut headings, &mut pool);
     if answer.is_err() {
@@ -19,15 +20,13 @@ fn converted(table: &[[i32; 6]], cells: usize) -> Result<Rows, (u32, u32)> {
     answer?;
     let mut rows = Vec::new();
     let mut used = 0;
-    for heading in headings[..3 * table.len()].chunks_exact(3) {
+    for heading in headings[..numbers].chunks_exact(HEADING_NUMBERS) {
         assert_eq!(heading[0] as usize, used);
         let end = used + heading[1] as usize;
         rows.push((heading[1], heading[2], pool[used..end].to_vec()));
         used = end;
     }
-    assert!(headings[3 * table.len()..]
-        .iter()
-        .all(|&number| number == 0));
+    assert!(headings[numbers..].iter().all(|&number| number == 0));
     assert!(pool[used..].iter().all(|&cell| cell == EMPTY));
     Ok(rows)
 }
@@ -164,13 +163,14 @@ fn slot_11_sets() {
 #[test]
 fn slot_12_lists() {
     let table = [BOTTOM, W];
+    // Two headings, and three numbers that are none.
     let mut headings = [9; 11];
     let mut pool = [9; 10];
     assert_eq!(
         convert(table.as_flattened(), &mut headings, &mut pool),
         Ok(())
     );
-    assert_eq!(headings, [0, 1, 1, 1, 7, 1, 0, 0, 0, 0, 0]);
+    assert_eq!(headings, [0, 1, 1, 1, 1, 7, 1, 1, 0, 0, 0]);
     assert_eq!(pool, [0, 0, 1, 1, 1, 1, 1, 1, NONE, NONE]);
     assert!(converted(&table, 8).is_ok());
     assert_eq!(converted(&table, 7), Err((8, 1)));
@@ -313,16 +313,51 @@ fn the_three_first_checks() {
     assert_eq!(answer(&[0; 5], 0, 5_000_000), Err((1, 0)));
     assert_eq!(answer(&[0; 7], 0, 5_000_000), Err((1, 0)));
     assert_eq!(answer(&[0; 6 * 65], 400, 100), Err((1, 0)));
-    assert_eq!(answer(&[0; 6 * 64], 192, 64), Ok(()));
-    assert_eq!(answer(&[0; 6 * 64], 191, 5_000_000), Err((2, 0)));
-    assert_eq!(answer(&[0; 6], 2, 1), Err((2, 0)));
-    assert_eq!(answer(&[0; 6], 3, 4_194_305), Err((3, 0)));
-    assert_eq!(answer(&[0; 6], 3, 4_194_304), Ok(()));
+    assert_eq!(answer(&[0; 6 * 64], 256, 64), Ok(()));
+    assert_eq!(answer(&[0; 6 * 64], 255, 5_000_000), Err((2, 0)));
+    assert_eq!(answer(&[0; 6], 3, 1), Err((2, 0)));
+    assert_eq!(answer(&[0; 6], 4, 4_194_305), Err((3, 0)));
+    assert_eq!(answer(&[0; 6], 4, 4_194_304), Ok(()));
     // No room at all, after 4 to 7.
-    assert_eq!(answer(&[0; 6], 3, 0), Err((8, 0)));
-    assert_eq!(answer(&[0, 0, 0, 0, 0, 1], 3, 0), Err((6, 0)));
-    assert_eq!(answer(&[13, 0, 0, 0, 0, 1], 3, 0), Err((4, 0)));
-    assert_eq!(answer(&[1, 0, 0, 0, 0, 1], 3, 0), Err((5, 0)));
+    assert_eq!(answer(&[0; 6], 4, 0), Err((8, 0)));
+    assert_eq!(answer(&[0, 0, 0, 0, 0, 1], 4, 0), Err((6, 0)));
+    assert_eq!(answer(&[13, 0, 0, 0, 0, 1], 4, 0), Err((4, 0)));
+    assert_eq!(answer(&[1, 0, 0, 0, 0, 1], 4, 0), Err((5, 0)));
+}
+
+#[test]
+fn one_to_three_numbers_are_no_heading() {
+    for left_over in 0..HEADING_NUMBERS {
+        let mut headings = vec![9; HEADING_NUMBERS + left_over];
+        let mut pool = [9; 8];
+        assert_eq!(convert(&BOTTOM, &mut headings, &mut pool), Ok(()));
+        assert_eq!(headings[..HEADING_NUMBERS], [0, 1, 1, 1]);
+        assert_eq!(headings[HEADING_NUMBERS..], vec![0; left_over]);
+        let mut headings = vec![9; HEADING_NUMBERS + left_over];
+        let answer = convert([BOTTOM, W].as_flattened(), &mut headings, &mut pool);
+        assert_eq!(answer, Err((2, 0)));
+        assert_eq!(headings, vec![0; HEADING_NUMBERS + left_over]);
+    }
+}
+
+#[test]
+fn a_heading_has_the_slots_of_the_least_row() {
+    let odd = [6, 0, 1, 1, 1, 0];
+    let even = [6, 0, 1, 2, 1, 0];
+    let union = [9, 2, 3, 0, 0, 0];
+    let slots = |table: &[[i32; 6]]| -> Vec<u32> {
+        let mut headings = vec![9; HEADING_NUMBERS * table.len()];
+        convert(table.as_flattened(), &mut headings, &mut [9; 200]).unwrap();
+        let headings = headings.chunks_exact(HEADING_NUMBERS);
+        headings.map(|heading| heading[3]).collect()
+    };
+    // The union's working row has two slots, its least row one.
+    assert_eq!(slots(&[BOTTOM, PAIRS, odd, even, union]), [1, 1, 1, 1, 1]);
+    // B's labels rise by 7, and 5 of 7 are there.
+    assert_eq!(
+        slots(&[BOTTOM, W, B, C, [1, 3, 0, 3, 0, 0]]),
+        [1, 1, 5, 5, 5]
+    );
 }
 
 #[test]

@@ -17,11 +17,12 @@ use Rattle.jogipahn.proofs.c_api.jogipahn_figures.Tie as tie
 abbrev row : tie.Start → Row
 row s = given (s .args .period) (s .args .distance) (s .args .cells .now)
 
-replied : (c : tie.After-figures) → FiguresOf (row (c .before)) (c .figures .result)
+replied : (c : tie.After-figures) → FiguresOf (row (c .before)) (c .before .args .granules) (c .figures .result)
 replied c =
     let s = c .before in
     let p = s .fits .period in
     let n = s .fits .distance in
+    let g = s .fits .granules in
     simp plain at (c .figures .ensures)
 
 clash : {b : Bool} → b ≡ true → b ≡ false → ⊥
@@ -43,7 +44,7 @@ returns : tie.Need-returns
 returns c =
     let k = c .before in
     let d = k .before .before in
-    let h = subst (FiguresOf (row (d .before))) (k .figured .given .1) (replied d) in
+    let h = subst (FiguresOf (row (d .before)) (d .before .args .granules)) (k .figured .given .1) (replied d) in
     record { is = ap figuresCode (sym (h .0)); figures = λ _. h .1; zeros = λ f. absurd (clash (h .0) f) }
 
 returns-2 : tie.Need-returns-2
@@ -51,7 +52,7 @@ unfolding ofBits
 returns-2 c =
     let k = c .before .before in
     let d = k .before .before in
-    let h = subst (FiguresOf (row (d .before))) (k .figured2 .given .1) (replied d) in
+    let h = subst (FiguresOf (row (d .before)) (d .before .args .granules)) (k .figured2 .given .1) (replied d) in
     record {
       is = toZ-ofZ (sfits-of (c .refusal-code .ok)) ∙ c .refusal-code .ensures ∙ ap refusalCode (h .1) ∙ ap figuresCode (sym (h .0));
       figures = λ f. absurd (clash f (h .0));

@@ -1,9 +1,7 @@
--- `operand_checks::altered::alter` meets its contract: checks 7 and 8 stand before the others.
+-- `operand_checks::altered::alter` meets its contract: check 8 for the span stands before the others.
 -- Assumes nothing.
-use mathlib.Core.Path.{_≡_, sym, _∙_, ap, ap₂}
-use mathlib.Core.Bool.{Bool, true, _&&_}
+use mathlib.Core.Path.{_≡_, sym, _∙_}
 use Prim.Native.Nat.{ℕ}
-use borrow.Author.Tests.{not-true, not-false}
 use borrow.Author.Needs.{needs}
 use lib.Dec.{leb}
 use Rattle.integers.specs.Parts.{up}
@@ -11,7 +9,6 @@ use Rattle.integers.specs.Capped.{cappedAt}
 use Rattle.integers.specs.declared.Capped.the-variants.{Within}
 use Rattle.integers.proofs.Machine.{plain}
 use Rattle.calendar.specs.Meaning.{Row}
-use Rattle.calendar.specs.Granules.{full}
 use Rattle.calendar.specs.Size.{turn, spanOf}
 use Rattle.calendar.specs.Questions.{given}
 use Rattle.calendar.specs.Reply.{require}
@@ -25,9 +22,6 @@ use Rattle.operand_checks.proofs.Replies.{alter-is}
 use Rattle.operand_checks.proofs.altered.alter.Statement.{statement}
 use Rattle.operand_checks.proofs.altered.alter.Tie as tie
 
-is-full-requires : tie.Need-is-full-requires
-is-full-requires c κs = search needs
-
 abbrev row-a : tie.Start → Row
 row-a s = given (s .args .a-period) (s .args .a-distance) (s .args .a-cells .now)
 
@@ -38,60 +32,25 @@ abbrev span : tie.Start → ℕ
 span s = spanOf (turn (row-a s)) (turn (row-b s))
 
 checks : (s : tie.Start) → let o = altering (s .args .by) (row-a s) (row-b s) in
-    admission o (up (s .args .room)) ≡ require 7 (full (row-a s) && full (row-b s)) (require 8 (leb (span s) (up (s .args .room))) (behindSpan o (up (s .args .room))))
-checks s = let by = s .args .by in alter-is (row-a s) (row-b s) (up (s .args .room)) (up (by .x)) (up (by .y)) (by .z)
-
-full-is : (c : tie.After-is-full) → c .is-full .result ≡ full (row-a (c .before))
-full-is c =
-    let p = c .before .fits .a-period in
-    let n = c .before .fits .a-distance in
-    simp plain at (c .is-full .ensures)
-
-returns : tie.Need-returns
-returns c =
-    let t = c .before in
-    let s = t .before in
-    sym (checks s ∙ failed 7 _ (ap (λ (b : Bool). b && full (row-b s)) (sym (full-is t) ∙ not-true _ (c .if1 .taken))))
-
-first-full : (c : tie.Else1) → full (row-a (c .before .before)) ≡ true
-first-full c = sym (full-is (c .before)) ∙ not-false _ (c .if1 .left)
-
-full-is-2 : (c : tie.After-is-full2) → c .is-full2 .result ≡ full (row-b (c .before .before .before))
-full-is-2 c =
-    let s = c .before .before .before in
-    let p = s .fits .b-period in
-    let n = s .fits .b-distance in
-    simp plain at (c .is-full2 .ensures)
-
-is-full-requires-2 : tie.Need-is-full-requires-2
-is-full-requires-2 c κs = search needs
-
-returns-2 : tie.Need-returns-2
-returns-2 c =
-    let t = c .before in
-    let s = t .before .before .before in
-    let e = sym (full-is-2 t) ∙ not-true _ (c .if2 .taken) in
-    sym (checks s ∙ failed 7 _ (ap₂ (λ (a b : Bool). a && b) (first-full (t .before)) e))
-
-second-full : (c : tie.Else2) → full (row-b (c .before .before .before .before)) ≡ true
-second-full c = sym (full-is-2 (c .before)) ∙ not-false _ (c .if2 .left)
-
-both-full : (c : tie.Else2) → let s = c .before .before .before .before in full (row-a s) && full (row-b s) ≡ true
-both-full c = ap₂ (λ (a b : Bool). a && b) (first-full (c .before .before)) (second-full c)
+    admission o (up (s .args .room)) ≡ require 8 (leb (span s) (up (s .args .room))) (behindSpan o (up (s .args .room)))
+checks s =
+    let by = s .args .by in
+    let p = s .pre .1 .1 .1 .1 in
+    alter-is (row-a s) (row-b s) (up (s .args .room)) (up (by .x)) (up (by .y)) (by .z) (p .0) (p .1)
 
 span-of-requires : tie.Need-span-of-requires
 span-of-requires c κs =
-    let s = c .before .before .before .before in
+    let s = c in
     let r = s .fits .room in
     let p = s .fits .a-period in
     let n = s .fits .a-distance in
     let q = s .fits .b-period in
     let m = s .fits .b-distance in
-    simp plain (s .pre .1 .0, (limited _ _ _ (s .pre .1 .1 .0), limited _ _ _ (s .pre .1 .1 .1)))
+    simp plain (s .pre .1 .0, (limited _ _ _ (s .pre .1 .1 .0), limited _ _ _ (s .pre .1 .1 .1 .0)))
 
-capped-is : (c : tie.After-span-of) → let s = c .before .before .before .before .before in c .span-of .result ≡ cappedAt (up (s .args .room)) (span s)
+capped-is : (c : tie.After-span-of) → let s = c .before in c .span-of .result ≡ cappedAt (up (s .args .room)) (span s)
 capped-is c =
-    let s = c .before .before .before .before .before in
+    let s = c .before in
     let r = s .fits .room in
     let p = s .fits .a-period in
     let n = s .fits .a-distance in
@@ -105,65 +64,54 @@ enum-known-capped c = search needs
 enum-told : tie.Need-enum-told
 enum-told c = search needs
 
-returns-3 : tie.Need-returns-3
-returns-3 c =
+returns : tie.Need-returns
+returns c =
     let t = c .before .before in
-    let s = t .before .before .before .before .before in
-    sym (checks s ∙ passed 7 _ (both-full (t .before)) ∙ failed 8 _ (capped-past _ _ (sym (capped-is t) ∙ c .enum-told .given .1)))
+    let s = t .before in
+    sym (checks s ∙ failed 8 _ (capped-past _ _ (sym (capped-is t) ∙ c .enum-told .given .1)))
 
-within : (c : tie.After-known-told) → let s = c .before .before .before .before .before .before .before .before in
+within : (c : tie.After-known-told) → let s = c .before .before .before .before in
     cappedAt (up (s .args .room)) (span s) ≡ Within (c .before .capped .given .0 .0)
 within c = sym (capped-is (c .before .before .before)) ∙ c .before .capped .given .1
 
 cast-aligned : tie.Need-cast-aligned
-cast-aligned c = capped-fits (c .before .before .before .before .before .before .before .before .pre .1 .0) _ (within c)
+cast-aligned c = capped-fits (c .before .before .before .before .pre .1 .0) _ (within c)
 
 aligned-requires : tie.Need-aligned-requires
 aligned-requires c κs =
-    let e = c .before .before .before .before in
-    let s = e .before .before .before .before in
+    let s = c .before .before .before .before in
     let h = capped-half (s .pre .1 .0) _ (within c) in
     let r = s .fits .room in
     let p = s .fits .a-period in
     let n = s .fits .a-distance in
     let q = s .fits .b-period in
     let m = s .fits .b-distance in
+    let k = s .pre .1 .1 in
     simp plain (
       s .pre .0,
-      (
-        s .pre .1 .0,
-        (
-          s .pre .1 .1 .0,
-          (s .pre .1 .1 .1, (first-full (e .before .before), (second-full e, capped-spanned (row-a s) (row-b s) (s .pre .1 .0) (within c)))),
-        ),
-      ),
+      (s .pre .1 .0, (k .0, (k .1 .0, (k .1 .1 .0, (k .1 .1 .1, capped-spanned (row-a s) (row-b s) (s .pre .1 .0) (within c)))))),
     )
 
-returns-4 : tie.Need-returns-4
-returns-4 c =
+returns-2 : tie.Need-returns-2
+returns-2 c =
     let k = c .before in
-    let e = k .before .before .before .before in
-    let s = e .before .before .before .before in
+    let s = k .before .before .before .before in
     let r = s .fits .room in
     let p = s .fits .a-period in
     let n = s .fits .a-distance in
     let q = s .fits .b-period in
     let m = s .fits .b-distance in
     simp plain at (c .aligned .ensures)
-    ∙ sym (checks s ∙ passed 7 _ (both-full e) ∙ passed 8 _ (capped-passes _ _ (within k)))
+    ∙ sym (checks s ∙ passed 8 _ (capped-passes _ _ (within k)))
 
 pub alter-spec : {M : Type 1} → statement M
 alter-spec =
     tie.close
     (tie.spec
-    is-full-requires
-    returns
-    is-full-requires-2
-    returns-2
     span-of-requires
     enum-known-capped
     enum-told
-    returns-3
+    returns
     cast-aligned
     aligned-requires
-    returns-4)
+    returns-2)

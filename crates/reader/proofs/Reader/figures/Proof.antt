@@ -1,13 +1,13 @@
 -- `Reader::figures` meets its contract, by hand: it passes the reader's fields on to `questions::figures`.
 -- Assumes nothing.
-use Rattle.hand_proofs.proofs.Logic.{refl, [], _∷_, URA, named, SProp, id⊢, Memory, Routine, Heap, WpFn, Tables, Atoms, Lfts, Fun, givenOf, tables, tablesOf, Given, raw, _$_, _∵_, !, qed, move, done, look, init, stop, from, and-then, no-more, land, returns, enter, alloc1, alloc0, params1, pass1, pass0, free0, Typed, Meets, tripleOf, entered, cited, of-opd, namedLft, NamedLft}
+use Rattle.hand_proofs.proofs.Logic.{refl, [], _∷_, ℤ, URA, named, tyInt, w64, SProp, id⊢, Memory, Routine, Heap, WpFn, Tables, Atoms, Lfts, Fun, givenOf, tables, tablesOf, Given, raw, _$_, _∵_, !, qed, move, done, look, init, stop, from, and-then, no-more, land, returns, enter, alloc1, alloc0, params1, pass1, pass0, free0, i64, Typed, Meets, tripleOf, entered, cited, of-opd, namedLft, NamedLft}
 use Rattle.hand_proofs.proofs.Owned.{silence}
-use Rattle.hand_proofs.proofs.Params.{enum}
+use Rattle.hand_proofs.proofs.Params.{number, enum}
 use Rattle.hand_proofs.proofs.Passed.{Passes, calls-on, same, passes-on}
 use Rattle.hand_proofs.proofs.Steps.{cell, part, puts, dies}
 use Rattle.reader.specs.declared.Reader.{Reader}
 use Rattle.reader.proofs.Reader.Laws as T′
-use Rattle.reader.proofs.Fields.{fields, Row, row, reader, fields-last}
+use Rattle.reader.proofs.Fields.{num, fields, Row, row, reader, fields-last}
 use Rattle.questions.proofs.Figured as N
 use Rattle.questions.proofs.Figured.Laws as N′
 use Rattle.questions.proofs.figures as g
@@ -22,29 +22,29 @@ use Rattle.reader.proofs.Reader.figures.Code as code
 abbrev α : Lfts 1 → NamedLft
 α κs = namedLft 1 0 tt κs
 
-module _ {M : Type 1} (𝓤 : URA M) (H : Heap 𝓤) (A : Atoms 𝓤) (W : Given 𝓤 H A) (𝓣 : Tables 𝓤 H) (d : Reader) where
-  walk : Typed (T′.mir (named 0) ∷ []) (T′.lowered d ∷ []) → Passes 𝓤 H 𝓣 code.function (T′.lowered d ∷ []) #questions·figures (fields d) N′.mir
+module _ {M : Type 1} (𝓤 : URA M) (H : Heap 𝓤) (A : Atoms 𝓤) (W : Given 𝓤 H A) (𝓣 : Tables 𝓤 H) (d : Reader) (n : ℤ) where
+  walk : Typed (T′.mir (named 0) ∷ tyInt w64 ∷ []) (T′.lowered d ∷ num n ∷ []) → Passes 𝓤 H 𝓣 code.function (T′.lowered d ∷ num n ∷ []) #questions·figures (num n ∷ fields d) N′.mir
   walk ts P Q h =
-      qed W (raw P ∷ []) ∵ enter ! (𝓣 .C) (𝓣 .Λ) code.function (T′.lowered d ∷ []) Q $
-      alloc1 ! (λ l₀. alloc1 ! (λ l₁. alloc1 ! (λ l₂. alloc1 ! (λ l₃. alloc1 ! (λ l₄. alloc0 ! $ params1 ! $
-      pass1 ! (init ! 6 refl (ts .0)) $ pass0 ! $
-      -- [_4; …; _3; …; _2; …; _1; …; room for _0; …; P]
-      puts ! 4 (of-opd ! (part ! 6 0 refl refl refl)) refl (tt, ts .0 .1 .0) $
-      puts ! 2 (of-opd ! (part ! 6 1 refl refl refl)) refl (tt, ts .0 .1 .1 .0) $
-      puts ! 0 (of-opd ! (part ! 6 2 refl refl refl)) refl (tt, ts .0 .1 .1 .1 .0) $
-      move ! (10 ∷ []) $ calls-on ! 𝓣 P (fields d) N′.mir Q h (and-then ! (cell ! 5 refl) (and-then ! (cell ! 3 refl) (and-then ! (cell ! 1 refl) (no-more !)))) (λ u is.
-      -- [Q u; _4; …; _3; …; _2; …; _1; …; room for _0; …]
-      land ! (from ! (stop !)) (init ! 9 refl is) $ returns ! (look ! 9 refl) $
-      dies ! 9 refl refl $ dies ! 7 refl refl $ dies ! 5 refl refl $ dies ! 3 refl refl $ dies ! 1 refl refl $ free0 ! $ done !))))))
+      qed W (raw P ∷ []) ∵ enter ! (𝓣 .C) (𝓣 .Λ) code.function (T′.lowered d ∷ num n ∷ []) Q $
+      alloc1 ! (λ l₀. alloc1 ! (λ l₁. alloc1 ! (λ l₂. alloc1 ! (λ l₃. alloc1 ! (λ l₄. alloc1 ! (λ l₅. alloc0 ! $ params1 ! $
+      pass1 ! (init ! 8 refl (ts .0)) $ pass1 ! (init ! 6 refl (ts .1 .0)) $ pass0 ! $
+      -- [_5; …; _4; …; _3; …; _2; …; _1; …; room for _0; …; P]
+      puts ! 4 (of-opd ! (part ! 8 0 refl refl refl)) refl (tt, ts .0 .1 .0) $
+      puts ! 2 (of-opd ! (part ! 8 1 refl refl refl)) refl (tt, ts .0 .1 .1 .0) $
+      puts ! 0 (of-opd ! (part ! 8 2 refl refl refl)) refl (tt, ts .0 .1 .1 .1 .0) $
+      move ! (12 ∷ []) $ calls-on ! 𝓣 P (num n ∷ fields d) N′.mir Q h (and-then ! (cell ! 7 refl) (and-then ! (cell ! 5 refl) (and-then ! (cell ! 3 refl) (and-then ! (cell ! 1 refl) (no-more !))))) (λ u is.
+      -- [Q u; _5; …; _4; …; _3; …; _2; …; _1; …; room for _0; …]
+      land ! (from ! (stop !)) (init ! 11 refl is) $ returns ! (look ! 11 refl) $
+      dies ! 11 refl refl $ dies ! 9 refl refl $ dies ! 7 refl refl $ dies ! 5 refl refl $ dies ! 3 refl refl $ dies ! 1 refl refl $ free0 ! $ done !)))))))
 
 figures-meets : {M : Type 1} (𝓤 : URA M) (H : Heap 𝓤) (A : Atoms 𝓤) → Given 𝓤 H A → (mem : Memory → SProp 𝓤) (run : Routine → Fun 𝓤) (𝓣 : Tables 𝓤 H) → Meets 𝓤 H A g.signature (𝓣 .C #questions·figures) (g.spec 𝓤 H A mem run)
     → Meets 𝓤 H A f.signature (WpFn 𝓤 H (𝓣 .C) (𝓣 .Λ) code.function) (f.spec 𝓤 H A mem run)
 figures-meets 𝓤 H A W mem run 𝓣 known =
     passes-on 𝓤 H A W 𝓣 g.ended (g.clauses 𝓤 H A mem run) #questions·figures known f.ended (f.clauses 𝓤 H A mem run) code.function
-    (same 𝓤 A 1) (λ κs. tt) (λ κs a. Row (a .0)) (λ κs a. (tt, id⊢ 𝓤 _)) (λ κs. (λ r. r, λ r u. id⊢ 𝓤 _))
-    (λ κs. row 𝓤 H A W (named 0) (κs .0) tt) (λ κs. (reader 𝓤 H A W (α κs), tt))
-    N′.mir (λ κs r u is. enum 𝓤 H A W N.the-type N′.the-laws tt .typed r _ is .0) (λ κs a. walk 𝓤 H A W 𝓣 (a .0)) (λ κs a. fields-last 𝓤 H A W (α κs) (a .0) ([]) (a .1) _)
-    (λ κs a ws. (tt, tt)) (λ κs a ws. silence 𝓤 H A 1 _) (λ κs a _ r ws. id⊢ 𝓤 _)
+    (same 𝓤 A 1) (λ κs. tt) (λ κs a. (a .1 .0, Row (a .0))) (λ κs a. (tt, id⊢ 𝓤 _)) (λ κs. (λ r. r, λ r u. id⊢ 𝓤 _))
+    (λ κs. (number 𝓤 H A W, row 𝓤 H A W (named 0) (κs .0) tt)) (λ κs. (reader 𝓤 H A W (α κs), (number 𝓤 H A W, tt)))
+    N′.mir (λ κs r u is. enum 𝓤 H A W N.the-type N′.the-laws tt .typed r _ is .0) (λ κs a. walk 𝓤 H A W 𝓣 (a .0) (a .1 .0)) (λ κs a. fields-last 𝓤 H A W (α κs) (a .0) (i64 ∷ []) (a .1) _)
+    (λ κs a ws. (tt, (tt, tt))) (λ κs a ws. silence 𝓤 H A 2 _) (λ κs a _ r ws. id⊢ 𝓤 _)
 
 pub figures-spec : {M : Type 1} → stated.statement M
 unfolding code.routine tablesOf
