@@ -62,7 +62,7 @@ impl Calendar {
     }
 }
 
-// Why a table, an entry, a row or a question is refused: a name for each of the numbers 1 to 18.
+// Why a table, an entry, a row or a question is refused: a name for each of the numbers 1 to 20.
 pub enum Refusal {
     TableLength,
     TooFewHeadings,
@@ -82,6 +82,8 @@ pub enum Refusal {
     PartsIncomplete,
     ListTooShort,
     AllowanceNotAllowed,
+    TextNotAllowed,
+    NoSuchDate,
 }
 
 impl Refusal {
@@ -107,6 +109,8 @@ impl Refusal {
             Refusal::PartsIncomplete => 16,
             Refusal::ListTooShort => 17,
             Refusal::AllowanceNotAllowed => 18,
+            Refusal::TextNotAllowed => 19,
+            Refusal::NoSuchDate => 20,
         }
     }
 }
