@@ -39,6 +39,15 @@ extern "C" {
  * 11 a label outside -1,000,000,000 to 1,000,000,000. */
 int64_t jogipahn_convert(const int32_t *table, size_t n, uint32_t *headings, size_t m, int32_t *pool, size_t p);
 
+/* The sheet of a table that is typed in, all that the program `sheet` prints for that text on its standard input: how many bytes
+ * of it stand in out; the rest of out is 0. -1, and all of out 0, where out is too short; 49,792 bytes are enough for any text.
+ * The text has a line for each entry, six decimal numbers with a single space between, each line ended by a line feed; no plus sign,
+ * no leading zeros, no "-0". The sheet has a line for each entry: period, distance, then the cells, "." for none, a single space
+ * between. A refusal is a sheet of one line, its number and entry: "refused 8 at 1". 19 is text that breaks the rules, is above
+ * 4,096 bytes or has a number outside 32 bits, with the first bad line from 0 (0 for the length, which is judged first); then come
+ * those of jogipahn_convert, with a pool of 4,096 cells and headings enough. Any bytes may be passed. */
+int64_t jogipahn_sheet(const uint8_t *text, size_t n, uint8_t *out, size_t m);
+
 /* The label of the instant t. 1 with the label in *label; 0 if the instant has none. *label is 0 after 0 and after a refusal.
  * Refusals: 13, 14. */
 int64_t jogipahn_up_instant(const int32_t *cells, size_t len, int64_t period, int64_t distance, int64_t t, int64_t *label);

@@ -10,6 +10,8 @@ pub use conversion::convert;
 pub use questions::{
     down, figures, least_period, may_be_late, may_be_late_by, up_granule, up_instant,
 };
+#[cfg(feature = "sheet")]
+pub use sheet::{sheet, sheet_into};
 
 #[cfg(feature = "questions")]
 mod questions {
@@ -273,6 +275,36 @@ mod conversion {
         match answer {
             0 => Ok(()),
             100..=1299 => Err((answer as u32 / 100, answer as u32 % 100)),
+            _ => panic!("the core answered {answer}, which means nothing"),
+        }
+    }
+}
+
+#[cfg(feature = "sheet")]
+mod sheet {
+    use crate::second::sheet::SHEET_LIMIT;
+
+    extern "C" {
+        fn jogipahn_sheet(text: *const u8, n: usize, out: *mut u8, m: usize) -> i64;
+    }
+
+    /// The sheet of a text; a list of [`SHEET_LIMIT`] bytes holds any.
+    pub fn sheet(text: &[u8]) -> Vec<u8> {
+        let mut out = vec![b'?'; SHEET_LIMIT];
+        let length = sheet_into(text, &mut out).expect("no sheet is longer than the list");
+        assert!(out[length..].iter().all(|&byte| byte == 0));
+        out.truncate(length);
+        out
+    }
+
+    /// As [`second::sheet::sheet_into`](crate::second::sheet::sheet_into).
+    pub fn sheet_into(text: &[u8], out: &mut [u8]) -> Option<usize> {
+        // SAFETY: the text is borrowed, and the list is lent with its length.
+        let answer =
+            unsafe { jogipahn_sheet(text.as_ptr(), text.len(), out.as_mut_ptr(), out.len()) };
+        match usize::try_from(answer) {
+            Ok(length) if length <= out.len() => Some(length),
+            _ if answer == -1 => None,
             _ => panic!("the core answered {answer}, which means nothing"),
         }
     }

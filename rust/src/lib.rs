@@ -3,8 +3,8 @@
 //!
 //! - [`second`] is the second implementation, written from documents 01 and 02 alone.
 //! - [`core`] wraps the C functions of the proved core in the same signatures.
-//! - [`random`], [`tables`] and [`rows`] make random numbers, tables, and rows with
-//!   questions to them, all from a seed.
+//! - [`random`], [`tables`], [`texts`] and [`rows`] make random numbers, tables,
+//!   texts, and rows with questions to them, all from a seed.
 //! - [`timing`] measures both sides.
 //! - [`vectors`] chooses the stored tables of the program `vectors` and says what
 //!   it has to print; `cargo run --release --bin vectors` writes both.
@@ -15,6 +15,7 @@
 //! ```text
 //! cargo test --release --features questions  --test questions  -- --nocapture
 //! cargo test --release --features conversion --test conversion -- --nocapture
+//! cargo test --release --features sheet      --test sheet      -- --nocapture
 //! cargo run  --release --features questions  --bin bench_questions
 //! cargo run  --release --features conversion --bin bench_conversion
 //! ```
@@ -24,5 +25,6 @@ pub mod random;
 pub mod rows;
 pub mod second;
 pub mod tables;
+pub mod texts;
 pub mod timing;
 pub mod vectors;

@@ -1,5 +1,5 @@
 -- What the proofs of several functions use, and a law of the rules of lateness.
---     Counts      as many parts as the list holds
+--     Counts      counts of what a list holds
 --     Rules       a rule that is neither 0 nor 1 is refused with 18
 pub mod Counts
 pub mod Rules

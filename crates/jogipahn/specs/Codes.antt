@@ -13,6 +13,8 @@ use Rattle.calendar.specs.Questions.{labelledInstants, soundWith}
 use Rattle.floats.specs.Figures.{Quotients}
 use Rattle.floats.specs.declared.Allowance.{Allowance}
 use Rattle.floats.specs.declared.Allowance.the-variants.{Fixed, Share}
+use Rattle.sheet_text.specs.declared.Written.{Written}
+use Rattle.sheet_text.specs.declared.Written.the-variants.{Bytes, TooShort}
 use Rattle.conversion.specs.declared.Conversion.{Conversion}
 use Rattle.conversion.specs.declared.Conversion.the-variants.{Refused, Converted}
 
@@ -78,3 +80,8 @@ allowanceOf (negsuc n) v = Fixed (fin true 1 (pos 0))
 abbrev pub conversionCode : Conversion → ℤ
 conversionCode (Refused n k) = pos (100 * n + k)
 conversionCode Converted = pos 0
+
+-- ---- a sheet: how many bytes it has, or −1 where the list is too short
+abbrev pub sheetCode : Written → ℤ
+sheetCode (Bytes n) = pos n
+sheetCode TooShort = negsuc 0

@@ -1,4 +1,4 @@
-// The conversion of a table and questions to a row, for C: include/jogipahn.h declares the functions. Each answers
+// The conversion of a table, questions to a row and the sheet of a text, for C: include/jogipahn.h declares the functions. Each answers
 // with one number; what else there is to say is left in the lists and behind the pointers that are handed in. A
 // question's refusal is its number below zero.
 
@@ -8,7 +8,7 @@ ghost use Rattle.calendar.specs.Refusals.{numberOf};
 ghost use Rattle.calendar.specs.Questions.{given};
 ghost use Rattle.calendar.specs.Questions as Q;
 ghost use Rattle.questions.specs.Answers.{upReply, counted, partsAfter, leastPeriod, mayBeLate};
-ghost use Rattle.jogipahn.specs.LeftCoded.{LeftCoded};
+ghost use Rattle.jogipahn.specs.LeftCoded.{LeftCoded, SheetCoded};
 ghost use Rattle.jogipahn.specs.Codes.{refusalCode, upCode, upLabel, downCode, FiguresLeft, leastCode, triedLeft, lateCode, allowanceOf, conversionCode};
 use calendar::Refusal;
 use conversion::Conversion;
@@ -18,6 +18,7 @@ use questions::Late;
 use questions::Shortening;
 use questions::Up;
 use questions::down::Parted;
+use sheet_text::Written;
 
 // A refusal as a number.
 fn refusal_code(x: Refusal) -> i64
@@ -226,4 +227,17 @@ pub extern "C" fn jogipahn_convert(table: &[i32], headings: &mut [u32], pool: &m
 {
     let converted = conversion::convert(table, &mut *headings, &mut *pool);
     conversion_code(converted)
+}
+
+// Writes the sheet of a table's text into `out`, with zeros behind it: how many bytes it has; or -1 where `out`, then all
+// zero, is too short for it.
+#[no_mangle]
+pub extern "C" fn jogipahn_sheet(text: &[u8], out: &mut [u8]) -> i64
+    ensures { λ r. ⌜ SheetCoded (now (text .entry)) (length (now (out .entry))) r (now (out .exit)) ⌝ }
+{
+    let written = sheet_text::sheet(text, &mut *out);
+    match written {
+        Written::Bytes(n) => n as i64,
+        Written::TooShort => -1,
+    }
 }

@@ -34,7 +34,7 @@
 //     calendar     Calendar, Refusal                  headings     Heading
 //     conversion   Conversion                         least_form   Shortest
 //     floats       Allowance, Figures                 questions    Up, Parted, Figured, Shortening, Late
-//     reader       Reader
+//     reader       Reader                             sheet_text   Written
 // A value that is only handed on, as a refusal within an answer, needs none. `crates/caller` is such a program.
 
 // The most entries of a table, the most cells of a pool or a row, and the greatest lateness that may be asked about.
@@ -82,6 +82,13 @@ pub use conversion::Conversion;
 
 // The same with four plain numbers for each heading: a caller in Rattle proves against it without a proof by hand.
 pub use conversion::convert as convert_plain;
+
+// sheet(text, out): a table's text, a line for each entry, to its sheet, a line for each row or one for a refusal (19 for a
+// text that breaks the rules), in a lent list with zeros behind it. Bytes(n) says how long the sheet is; TooShort, that
+// the list, then all zero, does not hold it. SHEET_LIMIT bytes hold any.
+pub use sheet_text::SHEET_LIMIT;
+pub use sheet_text::Written;
+pub use sheet_text::sheet;
 
 // A row with its period and distance. Its questions refuse 13 for a row that is not sound, and pass over the row once
 // for that:

@@ -11,6 +11,7 @@ mod kinds;
 mod least;
 mod numbers;
 pub mod questions;
+pub mod sheet;
 mod slots;
 
 pub use conversion::convert;

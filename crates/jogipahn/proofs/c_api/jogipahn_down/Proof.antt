@@ -5,18 +5,15 @@ use mathlib.Core.Path.{_≡_, sym, _∙_, ap}
 use mathlib.Core.List.{List}
 use Prim.Native.Nat.{ℕ, _<_, _^_}
 use native.Mathlib.Omega.{arith}
-use lib.IntN.{ℤ, pos}
+use lib.IntN.{ℤ}
 use lib.ListN.{length}
-use mir.Syntax.{w64}
-use mir.Val.{SFits, toZ}
 use mir.Facts.{toZ-ofZ}
-use Rattle.integers.proofs.Linear.{ints}
 use Rattle.integers.proofs.Machine.{plain}
 use Rattle.calendar.specs.Reply.{Reply}
 use Rattle.calendar.specs.Questions.{given, down}
 use Rattle.questions.specs.Answers.{partsReply, counted, partsAfter}
 use Rattle.jogipahn.specs.Codes.{downCode}
-use Rattle.jogipahn.proofs.Counts.{count-within}
+use Rattle.jogipahn.proofs.Counts.{count-fits, count-back, count-within}
 use Rattle.jogipahn.proofs.c_api.jogipahn_down.Statement.{statement}
 use Rattle.jogipahn.proofs.c_api.jogipahn_down.Tie as tie
 
@@ -59,14 +56,8 @@ small c =
     let h = count-within (reply (d .before .before)) (sym (ap partsReply (k .parted .given .1)) ∙ replied d .0) (replied d .1) (d .down .kept .1 .0) in
     omega (arith, h, d .before .before .good)
 
-fits : (n : ℕ) → n < 2 ^ 63 → SFits w64 (pos n)
-fits n h = simp ints (omega arith)
-
-reads-back : (n : ℕ) → n < 2 ^ 63 → toZ w64 n ≡ pos n
-reads-back n h = simp plain
-
 cast-result : tie.Need-cast-result
-cast-result c = fits (c .before .parted .given .0 .0) (small c)
+cast-result c = count-fits (c .before .parted .given .0 .0) (small c)
 
 enum-known-parted-2 : tie.Need-enum-known-parted-2
 enum-known-parted-2 c = search needs
@@ -81,7 +72,7 @@ returns : tie.Need-returns
 returns c =
     let k = c .before in
     let d = replied (k .before .before .before) in
-    (reads-back (k .parted .given .0 .0) (small c) ∙ ap downCode (sym (ap partsReply (k .parted .given .1)) ∙ d .0), d .1)
+    (count-back (k .parted .given .0 .0) (small c) ∙ ap downCode (sym (ap partsReply (k .parted .given .1)) ∙ d .0), d .1)
 
 same-length-2 : tie.Need-same-length-2
 same-length-2 c = search needs
