@@ -717,7 +717,8 @@ impl Builder {
     }
 }
 
-fn lcm(a: usize, b: usize) -> usize {
+/// The least common multiple of two numbers above 0.
+pub fn lcm(a: usize, b: usize) -> usize {
     let (mut x, mut y) = (a, b);
     while y != 0 {
         (x, y) = (y, x % y);

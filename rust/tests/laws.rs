@@ -1,74 +1,51 @@
-//! Document 01's laws, on random operands, where both sides are answered.
+//! The laws of documents 01 and 02, on random operands, where both sides are
+//! answered.
 
-use std::collections::BTreeMap;
+mod sides;
+
+use std::collections::{BTreeMap, BTreeSet};
 
 use jogipahn_compare::random::Random;
-use jogipahn_compare::second::{convert, ENTRY_LIMIT, ENTRY_NUMBERS, HEADING_NUMBERS};
-use jogipahn_compare::tables::{answered, Answered};
+use jogipahn_compare::second::{EMPTY, ENTRY_LIMIT};
+use jogipahn_compare::tables::{answered, lcm, Answered};
+use sides::{Row, Side};
 
-/// Period, distance and slots, and the cells.
-type Row = ([u32; 3], Vec<i32>);
+/// Cells that are lent for a side.
+const POOL: usize = 20_000;
 
-/// One side of a law: the operands' table and what is added to it.
-struct Side {
-    table: Vec<i32>,
-    result: i32,
-}
+/// 17 of document 01 and three of document 02.
+const LAWS: usize = 20;
 
-impl Side {
-    /// A side that is only an operand.
-    fn of(operands: &Answered, result: i32) -> Self {
-        Side {
-            table: operands.table.clone(),
-            result,
-        }
-    }
-
-    /// Adds an entry over the result so far and perhaps another operand.
-    fn then(mut self, kind: i32, second: i32, numbers: [i32; 3]) -> Self {
-        self.table.extend([kind, self.result, second]);
-        self.table.extend(numbers);
-        self.result = self.last();
-        self
-    }
-
-    /// Adds an entry over any operands.
-    fn entry(mut self, kind: i32, first: i32, second: i32) -> Self {
-        self.table.extend([kind, first, second, 0, 0, 0]);
-        self.result = self.last();
-        self
-    }
-
-    fn last(&self) -> i32 {
-        (self.table.len() / ENTRY_NUMBERS) as i32 - 1
-    }
-
-    fn row(&self) -> Result<Row, u32> {
-        let mut headings = vec![0; HEADING_NUMBERS * ENTRY_LIMIT];
-        let mut pool = vec![0; 20_000];
-        convert(&self.table, &mut headings, &mut pool).map_err(|(number, _)| number)?;
-        let heading = &headings[HEADING_NUMBERS * self.result as usize..];
-        let &[start, period, distance, slots] = &heading[..HEADING_NUMBERS] else {
-            unreachable!()
-        };
-        let cells = &pool[start as usize..][..period as usize];
-        Ok(([period, distance, slots], cells.to_vec()))
-    }
-}
-
-/// How often each law was found to hold, and how often a side was refused.
 #[derive(Default)]
-struct Counts(BTreeMap<&'static str, (u32, u32)>);
+struct Counts {
+    /// How often each law was found to hold, and how often a side was refused.
+    laws: BTreeMap<&'static str, (u32, u32)>,
+    /// How often select-up and combine of a and b were other than a.
+    changed: [u32; 2],
+}
 
 impl Counts {
+    /// The rows of both sides are equal.
     fn compare(&mut self, law: &'static str, left: Side, right: Side) {
-        let count = self.0.entry(law).or_default();
-        match (left.row(), right.row()) {
+        self.holds(law, &left, &right, |first, second| first == second);
+    }
+
+    /// What is to hold of the rows of both sides does.
+    fn holds(
+        &mut self,
+        law: &'static str,
+        left: &Side,
+        right: &Side,
+        law_holds: impl Fn(&Row, &Row) -> bool,
+    ) {
+        let count = self.laws.entry(law).or_default();
+        match (left.row(POOL), right.row(POOL)) {
             (Ok(first), Ok(second)) => {
-                assert_eq!(
-                    first, second,
-                    "{law}: {:?} and {:?}",
-                    left.table, right.table
+                assert!(
+                    law_holds(&first, &second),
+                    "{law}: {:?} and {:?} give {first:?} and {second:?}",
+                    left.table,
+                    right.table
                 );
                 count.0 += 1;
             }
@@ -89,11 +66,18 @@ fn the_laws_hold() {
         shifts_and_groups(&operands, &mut random, &mut counts);
         alters(&operands, &mut random, &mut counts);
         sets(&operands, &mut random, &mut counts);
+        selections(&operands, &mut random, &mut counts);
     }
-    for (law, (held, refused)) in &counts.0 {
-        println!("{law}: held {held} times, a side refused {refused} times");
+    for (law, (held, refused)) in &counts.laws {
+        println!("{law}: both sides answered {held} times, one refused {refused} times");
     }
-    assert!(counts.0.values().all(|&(held, _)| held >= 100));
+    println!(
+        "select-up and combine of a and b, other than a: {:?}",
+        counts.changed
+    );
+    assert_eq!(counts.laws.len(), LAWS);
+    assert!(counts.laws.values().all(|&(held, _)| held >= 100));
+    assert!(counts.changed.iter().all(|&changed| changed >= 100));
 }
 
 fn shifts_and_groups(operands: &Answered, random: &mut Random, counts: &mut Counts) {
@@ -103,7 +87,7 @@ fn shifts_and_groups(operands: &Answered, random: &mut Random, counts: &mut Coun
     };
     let entries = operands.entries();
     let a = random.below(entries) as i32;
-    let side = |entry| Side::of(operands, entry);
+    let side = |entry| Side::of(&operands.table, entry);
 
     let (s, t) = (small(random), small(random));
     counts.compare(
@@ -150,7 +134,7 @@ fn shifts_and_groups(operands: &Answered, random: &mut Random, counts: &mut Coun
 }
 
 fn alters(operands: &Answered, random: &mut Random, counts: &mut Counts) {
-    let side = |entry| Side::of(operands, entry);
+    let side = |entry| Side::of(&operands.table, entry);
     for coarse in (0..operands.entries()).filter(|&entry| operands.is_full(entry)) {
         let mut finer = operands.finer(coarse);
         finer.push(coarse);
@@ -159,24 +143,17 @@ fn alters(operands: &Answered, random: &mut Random, counts: &mut Counts) {
         let y = random.range(1, x.into()) as i32;
         let z = random.range(-3, 4) as i32;
         let coarse = coarse as i32;
-        let alter = |coarse: i32, z: i32| {
-            let mut side = side(fine);
-            side.table.extend([3, fine, coarse, x, y, z]);
-            side.result = side.last();
-            side
-        };
+        let alter = |side: Side, coarse: i32, z: i32| side.with(3, fine, coarse, [x, y, z]);
         counts.compare(
             "alter by 0 = the coarse operand",
-            alter(coarse, 0),
+            alter(side(fine), coarse, 0),
             side(coarse),
         );
-        let mut back = alter(coarse, z);
-        let altered = back.result;
-        back.table.extend([3, fine, altered, x, y, -z]);
-        back.result = back.last();
+        let altered = alter(side(fine), coarse, z);
+        let result = altered.result;
         counts.compare(
             "alter with z then -z = the coarse operand",
-            back,
+            alter(altered, result, -z),
             side(coarse),
         );
     }
@@ -186,7 +163,7 @@ fn sets(operands: &Answered, random: &mut Random, counts: &mut Counts) {
     const UNION: i32 = 9;
     const INTERSECTION: i32 = 10;
     const DIFFERENCE: i32 = 11;
-    let side = |entry| Side::of(operands, entry);
+    let side = |entry| Side::of(&operands.table, entry);
     // Three calendars of one stock, different ones if there are.
     let mut choices = Vec::new();
     for _ in 0..6 {
@@ -239,4 +216,64 @@ fn sets(operands: &Answered, random: &mut Random, counts: &mut Counts) {
         side(a).entry(DIFFERENCE, a, b).entry(DIFFERENCE, a, first),
         side(a).entry(INTERSECTION, a, b),
     );
+}
+
+/// Laws of document 02, of select-up and combine.
+fn selections(operands: &Answered, random: &mut Random, counts: &mut Counts) {
+    const COMBINE: i32 = 4;
+    const SELECT_UP: i32 = 7;
+    let side = |entry| Side::of(&operands.table, entry);
+    // Some of the slots that make up a's slots, or any.
+    let a = random.below(operands.entries());
+    let finer = operands.finer(a);
+    let stock: Vec<usize> = (0..operands.entries())
+        .filter(|&other| finer.iter().any(|&fine| operands.are_kin(fine, other)))
+        .collect();
+    let b = if stock.is_empty() || random.percent(25) {
+        random.below(operands.entries())
+    } else {
+        random.choose(&stock)
+    };
+    let (a, b) = (a as i32, b as i32);
+    let first = operands.entries() as i32;
+    let up = side(a).entry(SELECT_UP, a, b);
+    let combined = side(a).entry(COMBINE, a, b);
+    counts.compare(
+        "select-up of select-up(a, b) by b = select-up(a, b)",
+        up.clone().entry(SELECT_UP, first, b),
+        up.clone(),
+    );
+    counts.compare(
+        "combine(a, combine(a, b)) = combine(a, b)",
+        combined.clone().entry(COMBINE, a, first),
+        combined.clone(),
+    );
+    counts.holds(
+        "labels of select-up(a, b) = labels of combine(a, b)",
+        &up,
+        &combined,
+        same_labels,
+    );
+    let whole = side(a).row(POOL);
+    for (changed, side) in counts.changed.iter_mut().zip([up, combined]) {
+        *changed += u32::from(side.row(POOL).is_ok_and(|row| Ok(row) != whole));
+    }
+}
+
+/// Whether the same whole numbers are labels in both rows.
+fn same_labels(first: &Row, second: &Row) -> bool {
+    // A whole number of turns of each.
+    let window = lcm(first.distance as usize, second.distance as usize) as i64;
+    let labels = |row: &Row| -> BTreeSet<i64> {
+        let distance = i64::from(row.distance);
+        let turns = (0..window / distance).map(|turn| turn * distance);
+        let cells = row.cells.iter().filter(|&&cell| cell != EMPTY);
+        let residues: BTreeSet<i64> = cells
+            .map(|&cell| i64::from(cell).rem_euclid(distance))
+            .collect();
+        turns
+            .flat_map(|turn| residues.iter().map(move |residue| residue + turn))
+            .collect()
+    };
+    labels(first) == labels(second)
 }

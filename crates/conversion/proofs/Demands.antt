@@ -70,7 +70,7 @@ converted-means t h p headings pool left =
 shown : (x : ConvertedTable) → ShowsRows (x .meanings) (x .h) (x .p) Converted (x .headings) (x .pool)
 shown x = demand-2-only (x .table) (x .h) (x .p) Converted (x .headings) (x .pool) (x .left) (means (x .meanings)) (x .means)
 
-represented : (x : ConvertedTable) (k : ℕ) → k < length (x .meanings) → Represents (getD (x .meanings) k nothing) (rowOf x k)
+pub represented : (x : ConvertedTable) (k : ℕ) → k < length (x .meanings) → Represents (getD (x .meanings) k nothing) (rowOf x k)
 represented x = shown x .rows
 
 -- the fourth number of a heading is R of its row
@@ -92,14 +92,14 @@ demand-3 x y k l h h′ =
     )
 
 -- the same table over the definitions, with the rows that are stored
-stored : (x : ConvertedTable) → (l : List Row) × (outcome (x .table) (x .h / headingLength) (x .p) ≡ rows l)
+pub stored : (x : ConvertedTable) → (l : List Row) × (outcome (x .table) (x .h / headingLength) (x .p) ≡ rows l)
 stored x = by (outcome (x .table) (x .h / headingLength) (x .p)) (x .left .answer)
   where
     by : (o : Outcome) → Converted ≡ answered o → (l : List Row) × (o ≡ rows l)
     by (Outcome.refusedAt n k) e = let z : _≡_ {A = ℕ} 0 1 = cc in absurd (omega arith)
     by (Outcome.rows l) e = (l, refl)
 
-abbrev defined : ConvertedTable → Answered
+abbrev pub defined : ConvertedTable → Answered
 defined x = record {
   table = x .table;
   headings = x .h / headingLength;

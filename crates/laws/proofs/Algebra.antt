@@ -1,20 +1,22 @@
--- Each law of document 01 holds in the algebra: where both sides are defined, they are the same calendar.
+-- Each law of documents 01 and 02 holds in the algebra: where both sides are defined, they are the same calendar, or have the same labels.
 use mathlib.Core.Path.{refl, sym, _∙_, subst, fun-ext}
-use mathlib.Core.Logic.{inl, inr}
+use mathlib.Core.Logic.{_↔_, inl, inr}
 use Prim.Native.Nat.{ℕ, _*_}
-use lib.IntN.{pos, negℤ, _+ℤ_, _-ℤ_, _*ℤ_}
-use Rattle.calendar.specs.Meaning.{Calendar, Same, IsCalendar}
+use lib.IntN.{ℤ, pos, negℤ, _+ℤ_, _-ℤ_, _*ℤ_}
+use Rattle.calendar.specs.Meaning.{Calendar, Same, Has, IsCalendar}
 use Rattle.calendar.specs.Operation.{Operation}
 use Rattle.calendar.specs.Operation.SetOperation.{union, intersection, difference}
 use Rattle.calendar.specs.Operation.Unary.{group, shift, renumber}
-use Rattle.calendar.specs.Operation.Binary.{alter, combine, anchor, by-labels}
+use Rattle.calendar.specs.Operation.Selection.{select-up}
+use Rattle.calendar.specs.Operation.Binary.{alter, combine, anchor, select, by-labels}
 use Rattle.calendar.specs.Algebra.{Result}
 use Rattle.laws.specs.Terms.{Term, Value, Occurs}
-use Rattle.laws.specs.Laws.{Law, a, b, c, _∪_, _∩_, _∖_}
+use Rattle.laws.specs.Laws.{Law, LabelLaw, a, b, c, _∪_, _∩_, _∖_}
 use Rattle.laws.proofs.Values.{result-unique, unary-at, left-at, right-at, binary-at}
 use Rattle.laws.proofs.Pointwise
 use Rattle.laws.proofs.Sets
 use Rattle.laws.proofs.SelfOperands
+use Rattle.laws.proofs.Selections
 use Rattle.laws.proofs.Alter
 use Rattle.laws.proofs.Renumber
 
@@ -72,3 +74,14 @@ law-holds l r Law.double-difference v is x y X Y =
     Sets.double-difference (v 0) (v 1) p x y (E .aligned) (E .result) (D .result) (binary-at v (by-labels intersection) 0 1 Y .result)
 law-holds l r Law.anchor-self v is x y X Y = λ t. SelfOperands.anchor-self (v 0) x (binary-at v anchor 0 0 X .result) t ∙ sym (Y t)
 law-holds l r Law.combine-self v is x y X Y = λ t. SelfOperands.combine-self (v 0) x (binary-at v combine 0 0 X .result) t ∙ sym (Y t)
+law-holds l r Law.select-up-twice v is x y X Y =
+    let (p, P, D) = right-at v (select select-up) (Term.binary (select select-up) a b) 1 X in
+    Selections.select-up-twice (v 0) (v 1) p x y (binary-at v (select select-up) 0 1 P .result) (D .result) (binary-at v (select select-up) 0 1 Y .result)
+law-holds l r Law.combine-again v is x y X Y =
+    let (p, P, D) = left-at v combine 0 (Term.binary combine a b) X in
+    Selections.combine-again (v 0) (v 1) p x y (binary-at v combine 0 1 P .result) (D .result) (binary-at v combine 0 1 Y .result)
+
+-- the labels of both sides are the same
+pub label-law-holds : (l r : Term) → LabelLaw l r → (v : ℕ → Calendar) → (x y : Calendar) → Value v l x → Value v r y → (j : ℤ) → Has x j ↔ Has y j
+label-law-holds l r LabelLaw.up-combine v x y X Y =
+    Selections.up-combine (v 0) (v 1) x y (binary-at v (select select-up) 0 1 X .result) (binary-at v combine 0 1 Y .result)

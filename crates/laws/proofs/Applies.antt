@@ -1,37 +1,37 @@
 -- An example of each law, by computation: the operands' rows, and the row of both sides.
 use mathlib.Core.Path.{_≡_, refl}
 use mathlib.Core.List.{List, [], _∷_, _++_}
-use Prim.Native.Nat.{ℕ}
+use Prim.Native.Nat.{ℕ, _+_}
 use native.Mathlib.Omega.{arith}
 use lib.IntN.{ℤ, pos, negsuc}
 use lib.ListN.{replicate}
 use Rattle.calendar.specs.Meaning.{Row, empty, bottomRow}
 use Rattle.calendar.specs.Table.{named}
 use Rattle.calendar.specs.Worked.{entry, businessDays, renumberedDays, grouped, oddAndEven, labels, framed, oneToFive}
-use Rattle.laws.specs.Laws.{Law}
+use Rattle.laws.specs.Laws.{Law, LabelLaw}
 use Rattle.laws.specs.Matches.{EqualRows}
-use Rattle.laws.specs.Example.{rowsIn, Example}
+use Rattle.laws.specs.Example.{rowsIn, Example, LabelExample}
 
 -- ---- tables
 
 -- entries: the numbers of their operands, then their own numbers
-abbrev group : ℕ → ℕ → List ℤ
+abbrev pub group : ℕ → ℕ → List ℤ
 group i x = entry 1 i 0 (pos x) 0 (pos 0)
 
-abbrev shift : ℕ → ℤ → List ℤ
+abbrev pub shift : ℕ → ℤ → List ℤ
 shift i x = entry 2 i 0 x 0 (pos 0)
 
 abbrev alter : ℕ → ℕ → ℕ → ℕ → ℤ → List ℤ
 alter i j x y z = entry 3 i j (pos x) y z
 
-abbrev selectDown : ℕ → ℕ → ℤ → ℕ → List ℤ
+abbrev pub selectDown : ℕ → ℕ → ℤ → ℕ → List ℤ
 selectDown i j x y = entry 6 i j x y (pos 0)
 
 abbrev renumber : ℕ → ℤ → List ℤ
 renumber i x = entry 12 i 0 x 0 (pos 0)
 
 -- of two operands and no numbers
-abbrev binary : ℕ → ℕ → ℕ → List ℤ
+abbrev pub binary : ℕ → ℕ → ℕ → List ℤ
 binary kind i j = entry kind i j (pos 0) 0 (pos 0)
 
 -- odd days 2, even days 3, weeks 4, business days 5, the first two days of each week 6, its last four 7
@@ -40,7 +40,7 @@ parts = oddAndEven ++ group 0 7 ++ selectDown 0 4 (pos 1) 5 ++ selectDown 0 4 (p
 
 -- ---- rows
 
-abbrev row : ℕ → ℕ → List ℤ → Row
+abbrev pub row : ℕ → ℕ → List ℤ → Row
 row period distance cells = record { period = period; distance = distance; cells = cells }
 
 abbrev B : Row
@@ -237,3 +237,44 @@ combine-self =
       left = record { table = t; entry = 5; operands = 4 ∷ []; stored = refl; matches = λ ms v o. (4, 4, refl, o 0, o 0) };
       right = record { table = t; entry = 4; operands = 4 ∷ []; stored = refl; matches = λ ms v o. o 0 };
     }
+
+-- ---- select-up and combine
+
+abbrev W : Row
+W = row 7 1 (labels (0 ∷ 1 ∷ 1 ∷ 1 ∷ 1 ∷ 1 ∷ 1 ∷ []))
+
+-- every other week: those with the first day of a fortnight
+pub select-up-twice : Example Law.select-up-twice (W ∷ row 14 14 (empty ∷ pos 1 ∷ replicate 12 empty) ∷ []) (row 14 2 (empty ∷ replicate 7 (pos 1) ++ replicate 6 empty))
+unfolding rowsIn named
+select-up-twice =
+    let t = grouped 7 ++ group 0 14 ++ selectDown 0 2 (pos 1) 1 ++ binary 7 1 3 ++ binary 7 4 3 in
+    record {
+      left = record { table = t; entry = 5; operands = 1 ∷ 3 ∷ []; stored = refl; matches = λ ms v o. (4, 3, refl, (1, 3, refl, o 0, o 1), o 1) };
+      right = record { table = t; entry = 4; operands = 1 ∷ 3 ∷ []; stored = refl; matches = λ ms v o. (1, 3, refl, o 0, o 1) };
+    }
+
+-- weeks of whole pairs of days: in every other one the days of a pair that lies across are left out
+abbrev wholePairs : Row
+wholePairs = row 14 2 (labels (0 ∷ 1 ∷ 1 ∷ 1 ∷ 1 ∷ 1 ∷ 1 ∷ []) ++ (empty ∷ empty ∷ labels (2 ∷ 2 ∷ 2 ∷ 2 ∷ 2 ∷ [])))
+
+pub combine-again : Example Law.combine-again (W ∷ row 2 1 (labels (0 ∷ 1 ∷ [])) ∷ []) wholePairs
+unfolding rowsIn named
+combine-again =
+    let t = grouped 7 ++ group 0 2 ++ binary 4 1 2 ++ binary 4 1 3 in
+    record {
+      left = record { table = t; entry = 4; operands = 1 ∷ 2 ∷ []; stored = refl; matches = λ ms v o. (1, 3, refl, o 0, (1, 2, refl, o 0, o 1)) };
+      right = record { table = t; entry = 3; operands = 1 ∷ 2 ∷ []; stored = refl; matches = λ ms v o. (1, 2, refl, o 0, o 1) };
+    }
+
+-- every other week, whole and as its first day alone: other rows, the same labels
+pub up-combine : LabelExample LabelLaw.up-combine (row 14 2 (empty ∷ replicate 7 (pos 1) ++ replicate 6 empty)) (row 14 2 (empty ∷ pos 1 ∷ replicate 12 empty))
+unfolding rowsIn named
+up-combine = record {
+  table = grouped 7 ++ group 0 14 ++ selectDown 0 2 (pos 1) 1 ++ binary 7 1 3 ++ binary 4 1 3;
+  left = 4;
+  right = 5;
+  operand = λ n. n + n + 1;
+  stored = refl;
+  left-matches = λ ms. (1, 3, refl, λ t. refl, λ t. refl);
+  right-matches = λ ms. (1, 3, refl, λ t. refl, λ t. refl);
+}

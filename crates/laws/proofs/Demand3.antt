@@ -6,7 +6,7 @@ use Prim.Native.Nat.{ℕ, _<_}
 use native.Mathlib.Omega.{arith}
 use lib.IntN.{ℤ}
 use lib.ListN.{length}
-use Rattle.calendar.specs.Meaning.{Calendar, Same, IsCalendar}
+use Rattle.calendar.specs.Meaning.{Calendar, Same, Has, IsCalendar}
 use Rattle.calendar.specs.Operation.{Operation}
 use Rattle.calendar.specs.Table.{entryAt}
 use Rattle.algebra.specs.TableMeaning.{Meant}
@@ -14,10 +14,10 @@ use Rattle.algebra.proofs.Named.{named-operation}
 use Rattle.granules.proofs.Equal.{equal-rows}
 use Rattle.laws.specs.Terms.{Term, Value, Occurs}
 use Rattle.laws.specs.Terms.Term.{operand, bottom, unary, binary}
-use Rattle.laws.specs.Laws.{Law}
+use Rattle.laws.specs.Laws.{Law, LabelLaw}
 use Rattle.laws.specs.Matches.{Matches, calendarAt, EqualRows, rowAt}
 use Rattle.laws.specs.Answered.{Answered}
-use Rattle.laws.proofs.Algebra.{law-holds}
+use Rattle.laws.proofs.Algebra.{law-holds, label-law-holds}
 use Rattle.laws.proofs.Answered.{stored-represents}
 use Rattle.laws.proofs.Entries.{EntryDefined, table-defined}
 
@@ -67,3 +67,17 @@ demand-3-laws x y k l h h′ s s′ law v m m′ =
     (law-holds s s′ law v (matches-calendar (x .table) (x .meanings) (λ k h. stored-represents x k h .calendar) v s k h m) (calendarAt (x .meanings) k) (calendarAt (y .meanings) l)
     (matches-value (x .table) (x .meanings) (table-defined (x .means)) v s k h m)
     (matches-value (y .table) (y .meanings) (table-defined (y .means)) v s′ l h′ m′))
+
+-- (c) entries that match the two sides of a law of labels have the same labels
+pub demand-3-labels : (x y : Answered) (k l : ℕ) → k < length (x .meanings) → l < length (y .meanings)
+    → (s s′ : Term) → LabelLaw s s′ → (v : ℕ → Calendar)
+    → Matches (x .table) (x .meanings) v s k → Matches (y .table) (y .meanings) v s′ l
+    → (j : ℤ) → Has (calendarAt (x .meanings) k) j ↔ Has (calendarAt (y .meanings) l) j
+demand-3-labels x y k l h h′ s s′ law v m m′ =
+    label-law-holds s s′ law v (calendarAt (x .meanings) k) (calendarAt (y .meanings) l)
+    (matches-value (x .table) (x .meanings) (table-defined (x .means)) v s k h m)
+    (matches-value (y .table) (y .meanings) (table-defined (y .means)) v s′ l h′ m′)
+
+-- the same of calendars that are the same as these
+pub labels-through : (c d c′ d′ : Calendar) → Same c′ c → Same d′ d → ((j : ℤ) → Has c j ↔ Has d j) → (j : ℤ) → Has c′ j ↔ Has d′ j
+labels-through c d c′ d′ e f h j = rw (fun-ext e, fun-ext f) (h j)

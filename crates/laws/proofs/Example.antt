@@ -1,20 +1,21 @@
 -- Demand 3 applies to the two entries of an example.
 use mathlib.Core.Path.{_≡_, refl, sym, _∙_, ap}
+use mathlib.Core.Logic.{_↔_}
 use mathlib.Core.Option.{Option, some}
 use mathlib.Core.List.{List, [], _∷_, map}
 use Prim.Native.Nat.{ℕ, zero, suc, _<_}
 use native.Mathlib.Omega.{arith}
 use lib.IntN.{ℤ}
 use lib.ListN.{length, getD, getElem?}
-use Rattle.calendar.specs.Meaning.{Row, Calendar, Same}
+use Rattle.calendar.specs.Meaning.{Row, meant, Calendar, Same, Has}
 use Rattle.calendar.specs.Outcome.{outcome, Outcome}
 use Rattle.calendar.specs.Outcome.Outcome.{refusedAt, rows}
 use Rattle.laws.specs.Terms.{Term}
-use Rattle.laws.specs.Laws.{Law}
+use Rattle.laws.specs.Laws.{Law, LabelLaw}
 use Rattle.laws.specs.Matches.{calendarAt, EqualRows, rowAt}
-use Rattle.laws.specs.Example.{exampleHeadings, examplePool, rowsIn, Side, Example, Applies}
-use Rattle.laws.proofs.Answered.{stored-length, answered}
-use Rattle.laws.proofs.Demand3.{demand-3-rows}
+use Rattle.laws.specs.Example.{exampleHeadings, examplePool, rowsIn, Side, Example, Applies, LabelExample}
+use Rattle.laws.proofs.Answered.{stored-length, stored-represents, answered}
+use Rattle.laws.proofs.Demand3.{demand-3-rows, demand-3-labels, labels-through}
 
 -- ---- rows by their numbers
 
@@ -96,3 +97,25 @@ applies {rs} {r} e =
   where
     equal : {r s : Row} → r ≡ s → EqualRows r s
     equal e = (ap (λ (r : Row). r .period) e, ap (λ (r : Row). r .distance) e, ap (λ (r : Row). r .cells) e)
+
+-- ---- a law of labels
+
+-- the rows of both sides have the same labels
+pub labels-alike : {s s′ : Term} {law : LabelLaw s s′} {r r′ : Row} → LabelExample law r r′ → (j : ℤ) → Has (meant r) j ↔ Has (meant r′) j
+labels-alike {s} {s′} {law} {r} {r′} e =
+    by (outcome (e .table) exampleHeadings examplePool) refl (sym (rowsIn-is (e .table) (e .left ∷ e .right ∷ [])) ∙ e .stored)
+  where
+    by : (o : Outcome) → outcome (e .table) exampleHeadings examplePool ≡ o → ofOutcome (e .left ∷ e .right ∷ []) o ≡ map some (r ∷ r′ ∷ [])
+        → (j : ℤ) → Has (meant r) j ↔ Has (meant r′) j
+    by (refusedAt m k) p q = let z : _≡_ {A = ℕ} 0 1 = cc in absurd (omega arith)
+    by (rows l) p q =
+        let left = element-some l (e .left) r (cc) in
+        let right = element-some l (e .right) r′ (cc) in
+        let x = answered (e .table) exampleHeadings examplePool l p in
+        let in-left : e .left < length (x .meanings) = omega (arith, stored-length x) in
+        let in-right : e .right < length (x .meanings) = omega (arith, stored-length x) in
+        let means-left : Same (meant r) (calendarAt (x .meanings) (e .left)) = rw (left .1) at (stored-represents x (e .left) in-left .least .means) in
+        let means-right : Same (meant r′) (calendarAt (x .meanings) (e .right)) = rw (right .1) at (stored-represents x (e .right) in-right .least .means) in
+        labels-through (calendarAt (x .meanings) (e .left)) (calendarAt (x .meanings) (e .right)) (meant r) (meant r′) means-left means-right
+        (demand-3-labels x x (e .left) (e .right) in-left in-right s s′ law (λ n. calendarAt (x .meanings) (e .operand n))
+        (e .left-matches (x .meanings)) (e .right-matches (x .meanings)))

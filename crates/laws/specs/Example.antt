@@ -1,4 +1,4 @@
--- Examples of a law: two entries of answered tables that match its sides.
+-- Examples of a law: two entries of answered tables that match its sides; two entries that are refused.
 use mathlib.Core.Path.{_≡_}
 use mathlib.Core.Option.{Option, some}
 use mathlib.Core.List.{List, [], _∷_, map}
@@ -7,11 +7,13 @@ use lib.IntN.{ℤ}
 use lib.ListN.{length, getD, getElem?}
 use Rattle.calendar.specs.Limits.{entryLimit}
 use Rattle.calendar.specs.Meaning.{Row, Calendar, Same}
+use Rattle.calendar.specs.Operation.{SetOperation}
 use Rattle.calendar.specs.Outcome.{outcome}
 use Rattle.calendar.specs.Outcome.Outcome.{refusedAt, rows}
 use Rattle.algebra.specs.TableMeaning.{Meant}
 use Rattle.laws.specs.Terms.{Term}
-use Rattle.laws.specs.Laws.{Law}
+use Rattle.laws.specs.Laws.{Law, LabelLaw}
+use Rattle.laws.specs.Commutes.{Swapped}
 use Rattle.laws.specs.Matches.{calendarAt, Matches}
 use Rattle.laws.specs.Answered.{Answered}
 
@@ -51,3 +53,20 @@ pub record Applies {s s′ : Term} (law : Law s s′) : Type 0 where
   pub v : ℕ → Calendar
   pub left : Matches (x .table) (x .meanings) v s k
   pub right : Matches (y .table) (y .meanings) v s′ l
+
+-- both sides of a law of labels, entries of one answered table, each with its own row
+pub record LabelExample {s s′ : Term} (law : LabelLaw s s′) (leftRow rightRow : Row) : Type 0 where
+  pub table : List ℤ
+  pub left : ℕ
+  pub right : ℕ
+  -- the entry of each operand
+  pub operand : ℕ → ℕ
+  pub stored : rowsIn table (left ∷ right ∷ []) ≡ map some (leftRow ∷ rightRow ∷ [])
+  pub left-matches : (ms : List Meant) → Matches table ms (λ n. calendarAt ms (operand n)) s left
+  pub right-matches : (ms : List Meant) → Matches table ms (λ n. calendarAt ms (operand n)) s′ right
+
+-- two tables whose entries k have changed operands, each refused there with n in a pool of p cells
+pub record SwapExample (s : SetOperation) (t t′ : List ℤ) (k p n : ℕ) : Type 0 where
+  pub swapped : Swapped s k t t′
+  pub one : outcome t exampleHeadings p ≡ refusedAt n k
+  pub other : outcome t′ exampleHeadings p ≡ refusedAt n k

@@ -1,9 +1,10 @@
--- Document 01's "Laws demand 3 speaks of", as data.
+-- Document 01's "Laws demand 3 speaks of" and those that document 02, Req 13, adds, as data.
 use Prim.Native.Nat.{ℕ, _*_}
 use lib.IntN.{ℤ, pos, negℤ, _+ℤ_, _-ℤ_, _*ℤ_}
 use Rattle.calendar.specs.Operation.{SetOperation}
 use Rattle.calendar.specs.Operation.Unary.{group, shift, renumber}
-use Rattle.calendar.specs.Operation.Binary.{alter, combine, anchor, by-labels}
+use Rattle.calendar.specs.Operation.Selection.{select-up}
+use Rattle.calendar.specs.Operation.Binary.{alter, combine, anchor, select, by-labels}
 use Rattle.laws.specs.Terms.{Term}
 use Rattle.laws.specs.Terms.Term.{operand, unary, binary}
 
@@ -53,3 +54,10 @@ pub data Law : Term → Term → Type 0 where
   -- "Anchor(a, a) = a and combine(a, a) = a."
   anchor-self : Law (binary anchor a a) a
   combine-self : Law (binary combine a a) a
+  -- document 02, Req 13: "selecting up twice by the same calendar is selecting once; combining a with combine(a, b) is combine(a, b)."
+  select-up-twice : Law (binary (select select-up) (binary (select select-up) a b) b) (binary (select select-up) a b)
+  combine-again : Law (binary combine a (binary combine a b)) (binary combine a b)
+
+-- the two sides have the same labels, document 02, Req 13: "Where select-up and combine of a and b are both answered, their labels are the same."
+pub data LabelLaw : Term → Term → Type 0 where
+  up-combine : LabelLaw (binary (select select-up) a b) (binary combine a b)
