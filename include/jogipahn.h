@@ -1,4 +1,4 @@
-/* The conversion of a table of calendars to rows, and questions to a row. `rt staticlib jogipahn` writes the archive that
+/* The conversion of a table of calendars to rows, questions to a row, and dates. `rt staticlib jogipahn` writes the archive that
  * has the functions, target/staticlib/libjogipahn.a (link with -lm).
  *
  * A row is the labels of the instants 0 to period - 1, and INT32_MIN for an instant that has none; the instants with one
@@ -14,8 +14,11 @@
  *     -17   the list is too short for the parts
  *     -18   a rule that is neither 0 nor 1, a fixed allowance that is negative, infinite or no number, or a share that is not
  *           1/256 to 1 in steps of 1/256
+ *      19   text that is typed in breaks its rules: jogipahn_sheet prints it, no question answers it
+ *     -20   a date does not exist
  *
- * Of several, the answer is the first of 13 (each row in the order of the arguments), 14, 18, 15, 16, 17. Any numbers may be passed.
+ * Of several, the answer is the first of 13 (each row in the order of the arguments), 14, 18, 15, 16, 17; 20 comes before 14. Any numbers
+ * may be passed.
  * What is asked of the caller is what C cannot check: a pointer points to as many numbers as its length says (to one, where it has
  * none), is aligned and is not null, even where the length is 0; the whole of a list is at most 2^63 - 1 bytes; and what a function
  * writes to overlaps nothing else that is passed to it. */
@@ -47,6 +50,20 @@ int64_t jogipahn_convert(const int32_t *table, size_t n, uint32_t *headings, siz
  * 4,096 bytes or has a number outside 32 bits, with the first bad line from 0 (0 for the length, which is judged first); then come
  * those of jogipahn_convert, with a pool of 4,096 cells and headings enough. Any bytes may be passed. */
 int64_t jogipahn_sheet(const uint8_t *text, size_t n, uint8_t *out, size_t m);
+
+/* The civil calendar as a table over days: 66 with the table's 66 numbers in the list and 0 behind them; -1, and all of the list 0, where
+ * the list is shorter. Instant 1 is 1 January 2001. Entry 9 is months, of which 1 is January 2001: period 146,097, distance 4,800. Entry 10
+ * is years, of which 1 is 2001: period 146,097, distance 400. Both are the Gregorian calendar, run backward without end. Rows of all
+ * eleven entries take a pool of 332,046 cells. Other entries may be written behind the table. */
+int64_t jogipahn_civil_table(int32_t *table, size_t n);
+
+/* The date of the instant t: 0 with year, month (1 to 12) and day (from 1). The year is the civil number, 2001 for year slot 1; a year 0
+ * stands before year 1. All three are 0 after a refusal. Refusals: 14. */
+int64_t jogipahn_date(int64_t t, int64_t *year, int64_t *month, int64_t *day);
+
+/* The instant of a date: 0 with the instant in *t, and 0 there after a refusal. Refusals: 20 for a date that does not exist, wherever it
+ * would be; then 14 for one whose instant is outside -1,000,000,000 to 1,000,000,000. */
+int64_t jogipahn_instant(int64_t year, int64_t month, int64_t day, int64_t *t);
 
 /* The label of the instant t. 1 with the label in *label; 0 if the instant has none. *label is 0 after 0 and after a refusal.
  * Refusals: 13, 14. */

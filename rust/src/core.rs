@@ -6,6 +6,8 @@
 
 #[cfg(feature = "conversion")]
 pub use conversion::convert;
+#[cfg(feature = "dates")]
+pub use dates::{civil_table, civil_table_into, date, instant};
 #[cfg(feature = "questions")]
 pub use questions::{
     down, figures, least_period, may_be_late, may_be_late_by, up_granule, up_instant,
@@ -305,6 +307,67 @@ mod sheet {
         match usize::try_from(answer) {
             Ok(length) if length <= out.len() => Some(length),
             _ if answer == -1 => None,
+            _ => panic!("the core answered {answer}, which means nothing"),
+        }
+    }
+}
+
+#[cfg(feature = "dates")]
+mod dates {
+    use crate::second::dates::{Date, TABLE_NUMBERS};
+
+    extern "C" {
+        fn jogipahn_civil_table(table: *mut i32, n: usize) -> i64;
+        fn jogipahn_date(t: i64, year: *mut i64, month: *mut i64, day: *mut i64) -> i64;
+        fn jogipahn_instant(year: i64, month: i64, day: i64, t: *mut i64) -> i64;
+    }
+
+    /// What the core shouldn't leave standing.
+    const DIRT: i64 = 0x5EED_5EED_5EED;
+
+    /// The civil table, in a list that just holds it.
+    pub fn civil_table() -> Vec<i32> {
+        let mut table = vec![DIRT as i32; TABLE_NUMBERS];
+        let length = civil_table_into(&mut table);
+        assert_eq!(length, Some(TABLE_NUMBERS));
+        table
+    }
+
+    /// As [`second::dates::civil_table_into`](crate::second::dates::civil_table_into).
+    pub fn civil_table_into(list: &mut [i32]) -> Option<usize> {
+        // SAFETY: the list is lent with its length.
+        let answer = unsafe { jogipahn_civil_table(list.as_mut_ptr(), list.len()) };
+        match usize::try_from(answer) {
+            Ok(length) if length <= list.len() => Some(length),
+            _ if answer == -1 => None,
+            _ => panic!("the core answered {answer}, which means nothing"),
+        }
+    }
+
+    pub fn date(t: i64) -> Result<Date, u32> {
+        let (mut year, mut month, mut day) = (DIRT, DIRT, DIRT);
+        // SAFETY: the date is written to numbers of this function.
+        let answer = unsafe { jogipahn_date(t, &mut year, &mut month, &mut day) };
+        if answer == 0 {
+            return Ok((year, month, day));
+        }
+        assert_eq!((year, month, day), (0, 0, 0), "a date beside {answer}");
+        match answer {
+            -14 => Err(14),
+            _ => panic!("the core answered {answer}, which means nothing"),
+        }
+    }
+
+    pub fn instant(year: i64, month: i64, day: i64) -> Result<i64, u32> {
+        let mut t = DIRT;
+        // SAFETY: the instant is written to a number of this function.
+        let answer = unsafe { jogipahn_instant(year, month, day, &mut t) };
+        if answer == 0 {
+            return Ok(t);
+        }
+        assert_eq!(t, 0, "an instant beside the answer {answer}");
+        match answer {
+            -20 | -14 => Err(-answer as u32),
             _ => panic!("the core answered {answer}, which means nothing"),
         }
     }

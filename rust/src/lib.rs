@@ -16,8 +16,9 @@
 //! cargo test --release --features questions  --test questions  -- --nocapture
 //! cargo test --release --features conversion --test conversion -- --nocapture
 //! cargo test --release --features sheet      --test sheet      -- --nocapture
-//! cargo run  --release --features questions  --bin bench_questions
-//! cargo run  --release --features conversion --bin bench_conversion
+//! cargo test --release --features questions,conversion,dates --test dates -- --nocapture
+//! cargo run  --release --features questions        --bin bench_questions
+//! cargo run  --release --features conversion,dates --bin bench_conversion
 //! ```
 
 pub mod core;

@@ -42,7 +42,7 @@ lessAt-sum m h k = by (eqb m 0)
     by false = simp ints (omega arith)
 
 -- to p(i): h − 1 times where i − y is a multiple of x, else h times
-abbrev before : ℕ → ℕ → ℤ → ℤ
+abbrev pub before : ℕ → ℕ → ℤ → ℤ
 before x y i = lessAt (floorMod (i -ℤ pos y) x) (changes x y i)
 
 -- s from s + 1, by the remainder of s + 1
@@ -54,7 +54,7 @@ from-other s q x m = simp ints (omega arith)
 
 module _ (x : ℕ) (above : 1 ≤ x) where
   -- the quotient of s is that of s + 1, or one less where s + 1 is a multiple
-  quotient-before : (s : ℤ) → lessAt (floorMod (s +ℤ pos 1) x) (floorDiv (s +ℤ pos 1) x) ≡ floorDiv s x
+  pub quotient-before : (s : ℤ) → lessAt (floorMod (s +ℤ pos 1) x) (floorDiv (s +ℤ pos 1) x) ≡ floorDiv s x
   quotient-before s = by (eqb m 0) refl
     where
       q : ℤ
@@ -71,7 +71,7 @@ module _ (x : ℕ) (above : 1 ≤ x) where
 
   module _ (y : ℕ) where
     -- the granule i + 1 begins with the changes up to i
-    before-next : (i : ℤ) → before x y (i +ℤ pos 1) ≡ changes x y i
+    pub before-next : (i : ℤ) → before x y (i +ℤ pos 1) ≡ changes x y i
     before-next i =
         ap (λ (t : ℤ). lessAt (floorMod t x) (floorDiv t x +ℤ pos 1)) {x = i +ℤ pos 1 -ℤ pos y} {y = i -ℤ pos y +ℤ pos 1} (simp ints (omega arith))
         ∙ lessAt-sum (floorMod (i -ℤ pos y +ℤ pos 1) x) (floorDiv (i -ℤ pos y +ℤ pos 1) x) (pos 1)
@@ -80,7 +80,7 @@ module _ (x : ℕ) (above : 1 ≤ x) where
     apart : (i k : ℤ) → i +ℤ pos x *ℤ k -ℤ pos y ≡ i -ℤ pos y +ℤ pos x *ℤ k
     apart i k = simp ints (omega arith)
 
-    changes-turn : (i k : ℤ) → changes x y (i +ℤ pos x *ℤ k) ≡ changes x y i +ℤ k
+    pub changes-turn : (i k : ℤ) → changes x y (i +ℤ pos x *ℤ k) ≡ changes x y i +ℤ k
     changes-turn i k = ap (λ (t : ℤ). floorDiv t x +ℤ pos 1) (apart i k) ∴ floorDiv-shift x above (i -ℤ pos y) k ∴ simp ints (omega arith)
 
     before-turn : (i k : ℤ) → before x y (i +ℤ pos x *ℤ k) ≡ before x y i +ℤ k

@@ -62,7 +62,7 @@ pub record Tiling (f l : ℤ → ℤ) : Type 0 where
 
 module _ {f l : ℤ → ℤ} (t : Tiling f l) where
   -- of m intervals in a row one has j, if it is not before the first nor behind the last
-  find : (m : ℕ) (i j : ℤ) → f i ≤ℤ j → j <ℤ f (i +ℤ pos m) → (k : ℤ) × (i ≤ℤ k) × (k <ℤ (i +ℤ pos m)) × (f k ≤ℤ j) × (j ≤ℤ l k)
+  pub find : (m : ℕ) (i j : ℤ) → f i ≤ℤ j → j <ℤ f (i +ℤ pos m) → (k : ℤ) × (i ≤ℤ k) × (k <ℤ (i +ℤ pos m)) × (f k ≤ℤ j) × (j ≤ℤ l k)
   find zero i j h g = absurd (h ∴ g ∴ ap f {x = i +ℤ pos 0} {y = i} (simp ints (omega arith)) ∴ simp ints (omega arith))
   find (suc m) i j h g = by (le-or-lt (f (i +ℤ pos m)) j) (find m i j h)
     where
@@ -89,7 +89,7 @@ module _ {f l : ℤ → ℤ} (t : Tiling f l) where
       ∴ ap f {x = i +ℤ pos (suc k)} {y = i +ℤ pos k +ℤ pos 1} (simp ints (omega arith))
       ∴ simp ints (omega arith)
 
-  first-mono : (i k : ℤ) → i ≤ℤ k → f i ≤ℤ f k
+  pub first-mono : (i k : ℤ) → i ≤ℤ k → f i ≤ℤ f k
   first-mono i k h =
       rises i (up (k -ℤ i))
       ∴ ap f {x = i +ℤ pos (up (k -ℤ i))} {y = k} (pos-up {z = k -ℤ i} (h ∴ simp ints (omega arith)) ∴ simp ints (omega arith))

@@ -21,7 +21,7 @@ use Rattle.calendar.specs.Compute.{result, working, cellOf}
 use Rattle.calendar.specs.Checks.{unlabelled, labelsInRange, throughout}
 use Rattle.calendar.specs.Limits.{inRange, labelLimit}
 use Rattle.granules.specs.Valid.{Valid}
-use Rattle.granules.proofs.Tests.{and-iff, not-iff, false-iff, true≢false, leZ-iff, isSome-iff, ifLabel-iff}
+use Rattle.granules.proofs.Tests.{not-iff, false-iff, true≢false, between-iff, isSome-iff, ifLabel-iff}
 use Rattle.granules.proofs.Lists.{all-iff, mem-from, length-from}
 use Rattle.granules.proofs.Calendars.{labelled-near}
 use Rattle.granules.proofs.Rows.{meant-cell, meant-repeats, valid-of-calendar}
@@ -42,7 +42,7 @@ throughout-iff o f =
     )
 
 pub inRange-iff : (j : ℤ) → (inRange j ≡ true) ↔ ((negℤ labelLimit ≤ℤ j) × (j ≤ℤ labelLimit))
-inRange-iff j = simp (and-iff, leZ-iff) (λ h. h, λ h. h)
+inRange-iff = between-iff (negℤ labelLimit) labelLimit
 
 pub unlabelled-iff : (o : Operation Row) → Right o → (unlabelled o ≡ true) ↔ (¬ (Labelled (meaning o)))
 unfolding unlabelled

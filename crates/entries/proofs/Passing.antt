@@ -7,14 +7,14 @@ use Prim.Native.Nat.{ℕ, suc, _≤_}
 use native.Mathlib.Omega.{arith}
 use lib.Dec.{leb, ltb}
 use lib.IntN.{ℤ, pos, negsuc, negℤ}
-use lib.Signed.{_≤ℤ_, leZ}
+use lib.Signed.{_≤ℤ_}
 use Rattle.integers.specs.Parts.{up}
 use Rattle.integers.proofs.Linear.{ints}
 use Rattle.calendar.specs.Operation.{Operation}
 use Rattle.calendar.specs.Reply.Reply.{answer}
 use Rattle.calendar.specs.Limits.{between, labelLimit, million}
 use Rattle.calendar.specs.Table.{Entry, zero?, earlier, named, factor, label, altering, picking}
-use Rattle.granules.proofs.Tests.{true≢false, and-iff, or-iff, not-iff, false-iff, leZ-iff, ltb-iff, leb-iff, equal-iff}
+use Rattle.granules.proofs.Tests.{true≢false, and-iff, or-iff, not-iff, false-iff, between-iff, ltb-iff, leb-iff, equal-iff}
 use Rattle.granules.proofs.Replies.{require-answer}
 use Rattle.algebra.proofs.Working.{inRange-iff}
 use Rattle.kinds.specs.declared.Pick.{Pick}
@@ -24,11 +24,8 @@ use Rattle.entries.specs.Entries.{kindOf}
 
 -- ---- the limits of the numbers
 
-between-iff : (lo hi z : ℤ) → between lo hi z ≡ true → (lo ≤ℤ z) × (z ≤ℤ hi)
-between-iff lo hi z e = let h = and-iff (leZ lo z) (leZ z hi) .0 e in (leZ-iff lo z .0 (h .0), leZ-iff z hi .0 (h .1))
-
 pub factor-limits : (e : Entry) → factor e ≡ true → (pos 1 ≤ℤ e .x) × (e .x ≤ℤ million)
-factor-limits e h = between-iff (pos 1) million (e .x) (and-iff (between (pos 1) million (e .x)) _ .0 h .0)
+factor-limits e h = between-iff (pos 1) million (e .x) .0 (and-iff (between (pos 1) million (e .x)) _ .0 h .0)
 
 pub label-limits : (e : Entry) → label e ≡ true → (negℤ labelLimit ≤ℤ e .x) × (e .x ≤ℤ labelLimit)
 label-limits e h = inRange-iff (e .x) .0 (and-iff _ _ .0 h .0)
@@ -37,9 +34,9 @@ pub altering-limits : (e : Entry) (w : Alteration) → w .x ≡ e .x → w .y �
 altering-limits e w p q r h =
     let a = and-iff (between (pos 1) million (e .x)) _ .0 h in
     let b = and-iff (between (pos 1) (e .x) (e .y)) (between (negℤ million) million (e .z)) .0 (a .1) in
-    let x = between-iff (pos 1) million (e .x) (a .0) in
-    let y = between-iff (pos 1) (e .x) (e .y) (b .0) in
-    let z = between-iff (negℤ million) million (e .z) (b .1) in
+    let x = between-iff (pos 1) million (e .x) .0 (a .0) in
+    let y = between-iff (pos 1) (e .x) (e .y) .0 (b .0) in
+    let z = between-iff (negℤ million) million (e .z) .0 (b .1) in
     record {
       x-low = rw p (x .0);
       x-high = rw p (x .1);
@@ -54,8 +51,8 @@ picking-limits e p q r h =
     let a = and-iff (not (zero? (e .x))) _ .0 h in
     let b = and-iff (between (negℤ million) million (e .x)) _ .0 (a .1) in
     let c = and-iff (between (pos 1) million (e .y)) (zero? (e .z)) .0 (b .1) in
-    let x = between-iff (negℤ million) million (e .x) (b .0) in
-    let y = between-iff (pos 1) million (e .y) (c .0) in
+    let x = between-iff (negℤ million) million (e .x) .0 (b .0) in
+    let y = between-iff (pos 1) million (e .y) .0 (c .0) in
     record {
       not-zero = λ z. false-iff (equal-iff (pos 0) (e .x)) .0 (not-iff (zero? (e .x)) .0 (a .0)) (sym (sym q ∙ z));
       x-low = rw q (x .0);
@@ -105,7 +102,7 @@ passed k e o h =
     let p = and-iff first second .0 (r₅ .0) in
     let q = and-iff (leb 1 n || zero? (e .first)) _ .0 (r₆ .0) in
     let r = and-iff (leb 2 n || zero? (e .second)) (m .numbers e) .0 (q .1) in
-    let b = between-iff (pos 0) (pos 12) (e .kind) (r₄ .0) in
+    let b = between-iff (pos 0) (pos 12) (e .kind) .0 (r₄ .0) in
     let f = operand-passed k n 0 (e .first) (p .0) (q .0) in
     let s = operand-passed k n 1 (e .second) (p .1) (r .0) in
     record {

@@ -10,6 +10,7 @@ use mir.Val.{SFits, ofZ}
 use Prim.Native.Nat.{ℕ, suc, _≤_, _<_}
 use lib.Dec.{T, eqb, leb, ltb, eqb→eq, eqb-refl, leb→le, le→leb}
 use Rattle.integers.proofs.Machine.{test-le, test-lt, test-eq}
+use Rattle.calendar.specs.Limits.{between}
 use Rattle.calendar.specs.Lists.{equal, is, isSome, sameLabel, ifLabel, only}
 
 -- ---- booleans
@@ -84,6 +85,9 @@ equal-iff (negsuc a) (negsuc b) = (λ e. ap negsuc (eqb-iff a b .0 e), λ e. eqb
 
 pub leZ-iff : (j k : ℤ) → (leZ j k ≡ true) ↔ (j ≤ℤ k)
 leZ-iff = test-le
+
+pub between-iff : (lo hi z : ℤ) → (between lo hi z ≡ true) ↔ ((lo ≤ℤ z) × (z ≤ℤ hi))
+between-iff lo hi z = both-iff (leZ-iff lo z) (leZ-iff z hi)
 
 pub ltZ-iff : (j k : ℤ) → (ltZ j k ≡ true) ↔ (j <ℤ k)
 ltZ-iff = test-lt

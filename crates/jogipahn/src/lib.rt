@@ -34,7 +34,8 @@
 //     calendar     Calendar, Refusal                  headings     Heading
 //     conversion   Conversion                         least_form   Shortest
 //     floats       Allowance, Figures                 questions    Up, Parted, Figured, Shortening, Late
-//     reader       Reader                             sheet_text   Written
+//     dates        Date, Dated, Instant               reader       Reader
+//     sheet_text   Written
 // A value that is only handed on, as a refusal within an answer, needs none. `crates/caller` is such a program.
 
 // The most entries of a table, the most cells of a pool or a row, and the greatest lateness that may be asked about.
@@ -46,7 +47,7 @@ pub use calendar::POOL_LIMIT;
 // BOTTOM_LABEL, EMPTY, LEAST_LABEL, GREATEST_LABEL}` and `Calendar::bottom()`.
 pub use calendar::Calendar;
 
-// Why something is refused, with document 01's number for each name (`number`):
+// Why something is refused, with its number for each name (`number`), 1 to 18 of document 01, 19 and 20 of 02:
 //     1  TableLength            the table's length is not 6 times 1 to 64
 //     2  TooFewHeadings         fewer headings than entries
 //     3  PoolTooLong            a pool above 4,194,304 cells
@@ -67,6 +68,8 @@ pub use calendar::Calendar;
 //     17 ListTooShort           the list cannot hold the parts
 //     18 AllowanceNotAllowed    a fixed allowance that is negative, infinite or no number, or a share that is not
 //                               1/256 to 1 in steps of 1/256
+//     19 TextNotAllowed         text that breaks the rules of a table's text
+//     20 NoSuchDate             a date that does not exist
 pub use calendar::Refusal;
 
 // convert(table, headings, pool): the rows of all entries into the pool, one behind the other, and where each stands
@@ -122,5 +125,19 @@ pub use questions::may_be_late;
 pub use questions::up_granule;
 pub use questions::up_instant;
 
+// The civil calendar: the Gregorian months and years, run backward without end. Instant 1 is 1 January 2001, month 1 is
+// January 2001 and year 1 is 2001.
+//     civil_table()                   the table for `convert`: months are entry 9, years entry 10. It takes 11
+//                                     headings and 332,046 cells
+//     date_of(t)                      the date of an instant, its year by the civil number; refuses 14
+//     instant_of(year, month, day)    the instant of a date; refuses 20, then 14
+pub use civil_table::table as civil_table;
+pub use dates::Date;
+pub use dates::Dated;
+pub use dates::Instant;
+pub use dates::date_of;
+pub use dates::instant_of;
+
 // The same for C, as include/jogipahn.h declares them.
 mod c_api;
+mod c_civil;

@@ -7,6 +7,7 @@
 //! few prime factors tried for the least form.
 
 mod conversion;
+pub mod dates;
 mod kinds;
 mod least;
 mod numbers;

@@ -1,0 +1,3 @@
+-- The civil calendar in plain numbers.
+--     Tables       the list in which the table is left, number by number
+pub mod Tables

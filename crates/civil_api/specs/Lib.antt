@@ -1,0 +1,3 @@
+-- The civil calendar in plain numbers.
+--     Codes        what each function answers, and leaves
+pub mod Codes
