@@ -1,5 +1,5 @@
-/* Which month, which year and which delivery slot a date is in. The civil table is handed out, and a customer's own entries stand
- * behind it. */
+/* Which month, which year and which delivery slot a date is in, and at which place there: that in the month is its day. The civil
+ * table is handed out, and a customer's own entries stand behind it. */
 #include <stdio.h>
 
 #include "jogipahn.h"
@@ -30,7 +30,7 @@ static uint32_t headings[HEADING * ENTRIES];
 
 static void tell(int year, int month, int day)
 {
-    int64_t t, label;
+    int64_t t, label, place;
     printf("%d-%02d-%02d is ", year, month, day);
     int64_t answer = jogipahn_instant(year, month, day, &t);
     if (answer != 0) {
@@ -38,11 +38,11 @@ static void tell(int year, int month, int day)
         return;
     }
     printf("day %d:", (int)t);
-    if (jogipahn_up_instant(ROW(MONTHS), t, &label) == 1)
-        printf(" month %d,", (int)label);
-    if (jogipahn_up_instant(ROW(YEARS), t, &label) == 1)
-        printf(" year %d,", (int)label);
-    if (jogipahn_up_instant(ROW(SLOTS), t, &label) == 1)
+    if (jogipahn_up_instant(ROW(MONTHS), t, &label, &place) == 1)
+        printf(" place %d in month %d,", (int)place, (int)label);
+    if (jogipahn_up_instant(ROW(YEARS), t, &label, &place) == 1)
+        printf(" place %d in year %d,", (int)place, (int)label);
+    if (jogipahn_up_instant(ROW(SLOTS), t, &label, &place) == 1)
         printf(" delivery slot %d\n", (int)label);
     else
         printf(" closed\n");

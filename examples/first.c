@@ -1,4 +1,5 @@
-/* A customer takes deliveries on five days of each week. From that table to slot numbers: which slot a day has, and which slots make up a week. */
+/* A customer takes deliveries on five days of each week. From that table to slot numbers: which slot a day has, its place in the
+ * working week, and which slots make up a week. */
 #include <stdio.h>
 
 #include "jogipahn.h"
@@ -43,12 +44,15 @@ int main(void)
     }
     printf("\n");
 
-    int64_t label;
+    int64_t label, place;
     for (int64_t day = 5; day <= 8; day++) {
-        if (jogipahn_up_instant(ROW(3), day, &label) == 1)
-            printf("day %d has slot %d\n", (int)day, (int)label);
+        if (jogipahn_up_instant(ROW(3), day, &label, &place) == 1)
+            printf("day %d has slot %d", (int)day, (int)label);
         else
-            printf("day %d is closed\n", (int)day);
+            printf("day %d is closed", (int)day);
+        if (jogipahn_up_instant(ROW(4), day, &label, &place) == 1)
+            printf(", place %d in working week %d", (int)place, (int)label);
+        printf("\n");
     }
     if (jogipahn_up_granule(ROW(3), ROW(1), 6, &label) == 1)
         printf("slot 6 is in week %d\n", (int)label);

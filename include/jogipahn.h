@@ -65,9 +65,11 @@ int64_t jogipahn_date(int64_t t, int64_t *year, int64_t *month, int64_t *day);
  * would be; then 14 for one whose instant is outside -1,000,000,000 to 1,000,000,000. */
 int64_t jogipahn_instant(int64_t year, int64_t month, int64_t day, int64_t *t);
 
-/* The label of the instant t. 1 with the label in *label; 0 if the instant has none. *label is 0 after 0 and after a refusal.
- * Refusals: 13, 14. */
-int64_t jogipahn_up_instant(const int32_t *cells, size_t len, int64_t period, int64_t distance, int64_t t, int64_t *label);
+/* The label of the instant t, and its place among the slot's own instants, from 1: closed instants inside the slot don't count. 1 with
+ * both in *label and *place; 0 if the instant has none. Both are 0 after 0 and after a refusal. The place of a date's instant in its
+ * month is its day. Refusals: 13, 14. */
+int64_t jogipahn_up_instant(const int32_t *cells, size_t len, int64_t period, int64_t distance, int64_t t,
+                            int64_t *label, int64_t *place);
 
 /* The label of the slot of h that contains the whole slot z of g. 1 with the label in *label; 0 if there is none. *label is 0
  * after 0 and after a refusal. Refusals: 13 for g and for h, 14, 15. */
@@ -93,8 +95,8 @@ int64_t jogipahn_least_period(const int32_t *cells, size_t len, int64_t period, 
 
 /* Whether a delivery may be d instants late on the slot z: 1 for yes, 0 for no. By rule 0 it may be late by `amount` instants,
  * which is finite and not below zero; by rule 1 by a share of the slot's length, a multiple of 1/256 above 0 and up to 1. The length
- * is the number of the slot's own instants: closed days inside it don't count. A share of 0 and any other rule are refused with 18; a
- * fixed 0 is not. Refusals: 13, 14, 18, 15. */
+ * is the number of the slot's own instants, which is the place of its last: closed days inside it don't count. A share of 0 and any
+ * other rule are refused with 18; a fixed 0 is not. Refusals: 13, 14, 18, 15. */
 int64_t jogipahn_may_be_late(const int32_t *cells, size_t len, int64_t period, int64_t distance,
                              int64_t z, int64_t d, int64_t rule, double amount);
 

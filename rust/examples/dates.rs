@@ -1,5 +1,6 @@
-//! Which month, which year and which delivery slot a date is in. The civil
-//! table is handed out, and a customer's own entries stand behind it.
+//! Which month, which year and which delivery slot a date is in, and at which
+//! place there: that in the month is its day. The civil table is handed out,
+//! and a customer's own entries stand behind it.
 
 use jogipahn_compare::core;
 use jogipahn_compare::second::dates::{MONTHS, TABLE_CELLS, YEARS};
@@ -51,12 +52,12 @@ fn main() -> Result<(), u32> {
         };
         print!("day {t}:");
         for (name, entry) in [("month", MONTHS), ("year", YEARS)] {
-            if let Some(label) = core::up_instant(row(entry), t)? {
-                print!(" {name} {label},");
+            if let Some((label, place)) = core::up_instant(row(entry), t)? {
+                print!(" place {place} in {name} {label},");
             }
         }
         match core::up_instant(row(SLOTS), t)? {
-            Some(label) => println!(" delivery slot {label}"),
+            Some((label, _)) => println!(" delivery slot {label}"),
             None => println!(" closed"),
         }
     }

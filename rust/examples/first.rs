@@ -1,5 +1,6 @@
 //! A customer takes deliveries on five days of each week. From that table to
-//! slot numbers: which slot a day has, and which slots make up a week.
+//! slot numbers: which slot a day has, its place in the working week, and which
+//! slots make up a week.
 
 use jogipahn_compare::core;
 use jogipahn_compare::second::questions::Row;
@@ -44,9 +45,13 @@ fn main() -> Result<(), u32> {
 
     for day in 5..=8 {
         match core::up_instant(slot, day)? {
-            Some(label) => println!("day {day} has slot {label}"),
-            None => println!("day {day} is closed"),
+            Some((label, _)) => print!("day {day} has slot {label}"),
+            None => print!("day {day} is closed"),
         }
+        if let Some((label, place)) = core::up_instant(working_week, day)? {
+            print!(", place {place} in working week {label}");
+        }
+        println!();
     }
     if let Some(label) = core::up_granule(slot, week, 6)? {
         println!("slot 6 is in week {label}");

@@ -27,6 +27,7 @@ mod questions {
             distance: i64,
             t: i64,
             label: *mut i64,
+            place: *mut i64,
         ) -> i64;
 
         fn jogipahn_up_granule(
@@ -90,10 +91,10 @@ mod questions {
     /// What the core shouldn't leave standing.
     const DIRT: i64 = 0x5EED_5EED_5EED;
 
-    pub fn up_instant(row: Row, t: i64) -> Result<Option<i64>, u32> {
-        let mut label = DIRT;
-        // SAFETY: the row's cells are borrowed, and the label is written to a
-        // number of this function.
+    pub fn up_instant(row: Row, t: i64) -> Result<Option<(i64, u64)>, u32> {
+        let (mut label, mut place) = (DIRT, DIRT);
+        // SAFETY: the row's cells are borrowed, and label and place are written
+        // to numbers of this function.
         let answer = unsafe {
             jogipahn_up_instant(
                 row.cells.as_ptr(),
@@ -102,9 +103,14 @@ mod questions {
                 row.distance,
                 t,
                 &mut label,
+                &mut place,
             )
         };
-        label_answer(answer, label)
+        // A place stands beside the answer 1 only too.
+        assert_eq!(place > 0, answer == 1, "place {place} beside {answer}");
+        assert!(place >= 0, "place {place} beside {answer}");
+        let label = label_answer(answer, label)?;
+        Ok(label.map(|label| (label, place as u64)))
     }
 
     pub fn up_granule(g: Row, h: Row, z: i64) -> Result<Option<i64>, u32> {

@@ -39,6 +39,20 @@ impl OwnRow {
         labels_per_turn(&self.cells, self.distance)
     }
 
+    pub fn label(&self, t: i64) -> Option<i64> {
+        let cell = self.cells[t.rem_euclid(self.period) as usize];
+        (cell != EMPTY).then(|| i64::from(cell) + self.distance * t.div_euclid(self.period))
+    }
+
+    /// All instants with the label of t, if it has one. A turn away from t the
+    /// label is another.
+    pub fn slot_of(&self, t: i64) -> Vec<i64> {
+        let label = self.label(t);
+        let near = t - self.period..=t + self.period;
+        near.filter(|&other| label.is_some() && self.label(other) == label)
+            .collect()
+    }
+
     fn labelled(&self) -> Vec<usize> {
         let cells = self.cells.iter().enumerate();
         cells
@@ -245,6 +259,43 @@ pub enum Question {
     LeastPeriod,
     /// Whether a delivery may be so late on a slot of the first row.
     MayBeLate(i64, i64, Allowance),
+}
+
+/// What there is to say of the place of t among the instants of its slot.
+pub const PLACES: [&str; 6] = [
+    "the first",
+    "a later one",
+    "behind a closed instant",
+    "of a slot in two turns",
+    "in the second of two turns",
+    "the last of several",
+];
+
+/// Those of [`PLACES`] that are so, for an instant of a slot of the row.
+pub fn places(row: &OwnRow, slot: &[i64], t: i64) -> Vec<&'static str> {
+    let (first, last) = (slot[0], slot[slot.len() - 1]);
+    let turn = |t: i64| t.div_euclid(row.period);
+    let earlier = slot.iter().filter(|&&other| other < t).count() as i64;
+    let said = [
+        t == first,
+        t > first,
+        t - first > earlier,
+        turn(first) < turn(last),
+        turn(first) < turn(t),
+        t == last && first < last,
+    ];
+    let so = PLACES.into_iter().zip(said);
+    so.filter(|&(_, said)| said).map(|(name, _)| name).collect()
+}
+
+/// An instant near 0, near a limit or anywhere.
+pub fn instant(random: &mut Random) -> i64 {
+    let limit = i64::from(LABEL_LIMIT);
+    match random.below(8) {
+        0 => random.choose(&[limit, -limit]) + random.range(-6, 6),
+        1 => random.range(-limit, limit),
+        _ => random.range(-100, 100),
+    }
 }
 
 /// What may be handed in as the slots per period of a row that has so many, by

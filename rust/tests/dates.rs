@@ -6,10 +6,10 @@ use std::collections::BTreeMap;
 use jogipahn_compare::core;
 use jogipahn_compare::random::Random;
 use jogipahn_compare::second::dates::{
-    self as second, exists, is_leap, month_length, slots_of, tomorrow, Date, MONTHS, TABLE_CELLS,
-    TABLE_NUMBERS, YEARS,
+    self as second, day_of_year, exists, is_leap, month_length, slots_of, tomorrow, Date, MONTHS,
+    TABLE_CELLS, TABLE_NUMBERS, YEARS,
 };
-use jogipahn_compare::second::questions::Row;
+use jogipahn_compare::second::questions::{self, Row};
 use jogipahn_compare::second::{self as conversion, HEADING_NUMBERS};
 
 const LIMIT: i64 = 1_000_000_000;
@@ -317,29 +317,45 @@ fn a_cell_less_is_too_few() {
 }
 
 #[test]
-fn random_instants_are_in_the_month_and_year_of_their_date() {
+fn a_day_is_the_place_in_its_month() {
     let civil = Civil::converted();
     let (months, years) = (civil.row(MONTHS), civil.row(YEARS));
     let mut random = Random::new(0x5107);
-    let mut before_year_1 = 0;
-    for _ in 0..2_000 {
-        let t = match random.below(4) {
+    let (mut before_year_1, mut leap_days, mut refused) = (0, 0, 0);
+    let mut days = [0; 32];
+    for _ in 0..4_000 {
+        let t = match random.below(6) {
             0 => random.choose(&[LIMIT, -LIMIT]) + random.range(-1, 1),
             1 => random.range(-800_000, 200_000),
+            // The turn of both rows is in the last days of a year.
+            2 => 146_097 * random.range(-6_000, 6_000) + random.range(-2, 2),
+            3 => second::instant(4 * random.range(476, 524), 2, 29).unwrap_or(0),
             _ => random.range(-LIMIT, LIMIT),
         };
-        let slots = compare_date(t).map(slots_of);
-        let expected = |slot: Result<i64, u32>| slot.map(Some);
-        assert_eq!(
-            core::up_instant(months, t),
-            expected(slots.map(|slots| slots.0))
-        );
-        assert_eq!(
-            core::up_instant(years, t),
-            expected(slots.map(|slots| slots.1))
-        );
-        before_year_1 += u64::from(compare_date(t).is_ok_and(|date| date.0 < 1));
+        let asked = [months, years].map(|row| {
+            let answer = core::up_instant(row, t);
+            assert_eq!(answer, questions::up_instant(row, t), "{t}");
+            answer
+        });
+        let date = match compare_date(t) {
+            Ok(date) => date,
+            Err(number) => {
+                assert_eq!(asked, [Err(number); 2]);
+                refused += 1;
+                continue;
+            }
+        };
+        assert_eq!(compare_instant(date), Ok(t));
+        let (month, year) = slots_of(date);
+        let of_year = day_of_year(date) as u64;
+        assert_eq!(asked[0], Ok(Some((month, date.2 as u64))), "{date:?}");
+        assert_eq!(asked[1], Ok(Some((year, of_year))), "{date:?}");
+        before_year_1 += u64::from(date.0 < 1);
+        leap_days += u64::from((date.1, date.2) == (2, 29));
+        days[date.2 as usize] += 1;
     }
-    println!("{before_year_1} before year 1");
-    assert!(before_year_1 >= 200, "{before_year_1}");
+    println!("{before_year_1} before year 1, {leap_days} leap days, {refused} refused");
+    println!("by the day of the month: {:?}", &days[1..]);
+    assert!(before_year_1 >= 500 && leap_days >= 200 && refused >= 100);
+    assert!(days[1..].iter().all(|&count| count >= 20));
 }

@@ -3,7 +3,8 @@
 
 use jogipahn_compare::random::Random;
 use jogipahn_compare::second::dates::{
-    civil_table, date, instant, month_length, slots_of, tomorrow, MONTHS, TABLE_CELLS, YEARS,
+    civil_table, date, day_of_year, instant, month_length, slots_of, tomorrow, MONTHS, TABLE_CELLS,
+    YEARS,
 };
 use jogipahn_compare::second::questions::{up_instant, Row};
 use jogipahn_compare::second::{convert, HEADING_NUMBERS};
@@ -94,8 +95,11 @@ fn the_table_means_the_rule() {
     let mut random = Random::new(0xC1F1);
     for _ in 0..100 {
         let t = random.range(-1_000_000_000, 1_000_000_000);
-        let (month, year) = slots_of(date(t).unwrap());
-        assert_eq!(up_instant(months, t), Ok(Some(month)));
-        assert_eq!(up_instant(years, t), Ok(Some(year)));
+        let date = date(t).unwrap();
+        let (month, year) = slots_of(date);
+        // The day of a date is its place in its month.
+        let (of_month, of_year) = (date.2 as u64, day_of_year(date) as u64);
+        assert_eq!(up_instant(months, t), Ok(Some((month, of_month))));
+        assert_eq!(up_instant(years, t), Ok(Some((year, of_year))));
     }
 }

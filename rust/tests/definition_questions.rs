@@ -4,10 +4,12 @@
 // The limits stand here as in the paper.
 #![allow(clippy::manual_range_contains)]
 
+use std::collections::BTreeMap;
+
 use jogipahn_compare::random::Random;
 use jogipahn_compare::rows::{
-    can_unroll, damage, question, slots_given, unrolled, whole_row, whole_rows, OwnRow, Question,
-    DAMAGES,
+    can_unroll, damage, instant, places, question, slots_given, unrolled, whole_row, whole_rows,
+    OwnRow, Question, DAMAGES, PLACES,
 };
 use jogipahn_compare::second::questions::{self, Allowance};
 use jogipahn_compare::second::EMPTY;
@@ -71,10 +73,14 @@ fn slot_asked(row: &OwnRow, z: i64) -> Result<Vec<i64>, u32> {
     Ok(instants)
 }
 
-fn up_instant(row: &OwnRow, t: i64) -> Result<Option<i64>, u32> {
+fn up_instant(row: &OwnRow, t: i64) -> Result<Option<(i64, u64)>, u32> {
     test_row(row)?;
     refuse_if(!(-LIMIT <= t && t <= LIMIT), 14)?;
-    Ok(label(row, t))
+    let Some(label) = label(row, t) else {
+        return Ok(None);
+    };
+    let place = slot(row, label).iter().position(|&own| own == t);
+    Ok(place.map(|place| (label, place as u64 + 1)))
 }
 
 fn up_granule(g: &OwnRow, h: &OwnRow, z: i64) -> Result<Option<i64>, u32> {
@@ -289,6 +295,67 @@ fn figures_are_given_for_the_right_slots_only() {
     }
     println!("{longer_rows} rows written out twice");
     assert!(longer_rows >= 1_000, "{longer_rows}");
+}
+
+#[test]
+fn a_place_is_among_the_slots_own_instants() {
+    let mut counts: BTreeMap<&str, u64> = BTreeMap::new();
+    for seed in 0..40_000 {
+        let mut random = Random::new(0x91AC_0000 + seed);
+        let row = whole_row(&mut random, 40);
+        let t = instant(&mut random);
+        let answer = questions::up_instant(row.row(), t);
+        assert_eq!(answer, up_instant(&row, t), "{t} {row:?}");
+        let told = match answer {
+            Ok(Some((label, _))) => places(&row, &slot(&row, label), t),
+            Ok(None) => vec!["none"],
+            Err(number) => vec![if number == 14 {
+                "refused 14"
+            } else {
+                "refused"
+            }],
+        };
+        for told in told {
+            *counts.entry(told).or_default() += 1;
+        }
+    }
+    println!("{counts:?}");
+    for told in PLACES.iter().chain(&["none", "refused 14"]) {
+        let count = counts.get(told).copied().unwrap_or(0);
+        assert!(count >= 500, "{told}: {count}");
+    }
+    assert_eq!(counts.len(), PLACES.len() + 2);
+}
+
+#[test]
+fn the_length_is_the_place_of_the_last_instant() {
+    let whole = Allowance::Share(1.0);
+    let (mut in_range, mut past_it) = (0, 0);
+    for seed in 0..40_000 {
+        let mut random = Random::new(0x1A57_0000 + seed);
+        let row = whole_row(&mut random, 40);
+        let Some(z) = label(&row, instant(&mut random)) else {
+            continue;
+        };
+        let instants = slot(&row, z);
+        let (last, length) = (instants[instants.len() - 1], instants.len() as i64);
+        if z.abs() > LIMIT {
+            continue;
+        }
+        let late = |d| questions::may_be_late(row.row(), z, d, whole);
+        assert_eq!(late(length), Ok(true), "{z} {row:?}");
+        assert_eq!(late(length + 1), Ok(false), "{z} {row:?}");
+        let answer = questions::up_instant(row.row(), last);
+        if last.abs() <= LIMIT {
+            assert_eq!(answer, Ok(Some((z, length as u64))), "{z} {row:?}");
+            in_range += 1;
+        } else {
+            assert_eq!(answer, Err(14), "{z} {row:?}");
+            past_it += 1;
+        }
+    }
+    println!("last instants: {in_range} in 14's range, {past_it} past it");
+    assert!(in_range >= 10_000 && past_it >= 200, "{in_range} {past_it}");
 }
 
 #[test]

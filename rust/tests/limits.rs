@@ -146,7 +146,11 @@ fn questions_take_the_longest_row() {
         );
         assert_eq!(
             core::up_instant(row, -1),
-            if passes { Ok(Some(-1)) } else { Err(13) }
+            if passes {
+                Ok(Some((-1, CELLS as u64)))
+            } else {
+                Err(13)
+            }
         );
     }
     // The range of lateness has not moved.

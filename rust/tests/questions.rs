@@ -5,8 +5,8 @@ use std::collections::BTreeMap;
 use jogipahn_compare::core;
 use jogipahn_compare::random::Random;
 use jogipahn_compare::rows::{
-    can_unroll, damage, question, slots_given, unrolled, whole_row, whole_rows, OwnRow, Question,
-    DAMAGES,
+    can_unroll, damage, instant, places, question, slots_given, unrolled, whole_row, whole_rows,
+    OwnRow, Question, DAMAGES, PLACES,
 };
 use jogipahn_compare::second::questions as second;
 
@@ -67,6 +67,10 @@ fn questions_are_answered_alike() {
     ] {
         assert!(count_of(blank) >= 50, "{blank}: {}", count_of(blank));
     }
+    for up in ["a label, place 1", "a label, a later place", "none"] {
+        let told = format!("up from an instant: {up}");
+        assert!(count_of(&told) >= 1_000, "{told}: {}", count_of(&told));
+    }
     for period in [
         "least period: the row's own, the first tried",
         "least period: the row's own, after others",
@@ -83,6 +87,86 @@ fn questions_are_answered_alike() {
             count_of(&refused)
         );
     }
+}
+
+/// Asks both for the label and the place of an instant.
+fn compare_up_instant(row: &OwnRow, t: i64) -> Result<Option<(i64, u64)>, u32> {
+    let answer = core::up_instant(row.row(), t);
+    assert_eq!(answer, second::up_instant(row.row(), t), "{t} {row:?}");
+    answer
+}
+
+#[test]
+fn places_are_counted_alike() {
+    let mut counts: BTreeMap<&str, u64> = BTreeMap::new();
+    for seed in 0..40_000 {
+        let mut random = Random::new(0x91AC_0000 + seed);
+        let longest = if seed % 1_000 == 0 { 1 << 18 } else { 60 };
+        let row = whole_row(&mut random, longest);
+        let t = instant(&mut random);
+        let told = match compare_up_instant(&row, t) {
+            Ok(Some((label, place))) => {
+                let slot = row.slot_of(t);
+                assert_eq!(row.label(t), Some(label));
+                assert_eq!(slot[place as usize - 1], t, "{row:?}");
+                places(&row, &slot, t)
+            }
+            Ok(None) => vec!["none"],
+            Err(14) => vec!["refused 14"],
+            Err(number) => panic!("refused {number}: {row:?}"),
+        };
+        for told in told {
+            *counts.entry(told).or_default() += 1;
+        }
+    }
+    for (told, count) in &counts {
+        println!("place {told}: {count}");
+    }
+    assert_eq!(counts.len(), PLACES.len() + 2);
+    assert!(counts.values().all(|&count| count >= 500), "{counts:?}");
+}
+
+#[test]
+fn the_length_is_the_place_of_the_last_instant() {
+    const LIMIT: i64 = 1_000_000_000;
+    let whole = second::Allowance::Share(1.0);
+    let mut counts: BTreeMap<&str, u64> = BTreeMap::new();
+    for seed in 0..40_000 {
+        let mut random = Random::new(0x1A57_0000 + seed);
+        let row = whole_row(&mut random, 60);
+        let t = instant(&mut random);
+        let slot = row.slot_of(t);
+        let (Some(z), Some(&last)) = (row.label(t), slot.last()) else {
+            continue;
+        };
+        let answer = compare_up_instant(&row, last);
+        let late = |d: u64| core::may_be_late(row.row(), z, d as i64, whole);
+        let told = if z.abs() > LIMIT {
+            assert_eq!(late(0), Err(14), "{z} {row:?}");
+            "a slot outside the range"
+        } else {
+            // A share of 1 allows the length, and no more.
+            let length = slot.len() as u64;
+            assert_eq!(late(length), Ok(true), "{z} {row:?}");
+            assert_eq!(late(length + 1), Ok(false), "{z} {row:?}");
+            if last.abs() > LIMIT {
+                assert_eq!(answer, Err(14), "{z} {row:?}");
+                "a last instant past the range"
+            } else {
+                assert_eq!(answer, Ok(Some((z, length))), "{z} {row:?}");
+                match last - slot[0] >= slot.len() as i64 {
+                    true => "the length of a slot with gaps",
+                    false => "the length of a slot without gaps",
+                }
+            }
+        };
+        *counts.entry(told).or_default() += 1;
+    }
+    for (told, count) in &counts {
+        println!("{told}: {count}");
+    }
+    assert_eq!(counts.len(), 4);
+    assert!(counts.values().all(|&count| count >= 200), "{counts:?}");
 }
 
 /// Asks both for the figures of a row with so many slots per period.
@@ -156,10 +240,9 @@ fn compare(question: &Question, first: &OwnRow, other: &OwnRow) -> String {
     let refused = |number: u32| format!("refused {number}");
     match *question {
         Question::UpInstant(t) => {
-            let expected = second::up_instant(one, t);
-            assert_eq!(core::up_instant(one, t), expected, "{question:?} {first:?}");
-            let answer = match expected {
-                Ok(Some(_)) => "a label".to_owned(),
+            let answer = match compare_up_instant(first, t) {
+                Ok(Some((_, 1))) => "a label, place 1".to_owned(),
+                Ok(Some(_)) => "a label, a later place".to_owned(),
                 Ok(None) => "none".to_owned(),
                 Err(number) => refused(number),
             };

@@ -1,6 +1,6 @@
 -- Questions to a row that was handed in (document 01, "Questions to a row"), as definitions that compute. The order of refusals:
 -- "13 for each row in argument order, then 14, 18, 15, 16, 17".
-use mathlib.Core.Option.{Option, none, some}
+use mathlib.Core.Option.{Option, none, some, Option·map}
 use mathlib.Core.Bool.{Bool, cond, _&&_}
 use mathlib.Core.List.{List}
 use Prim.Native.Nat.{ℕ}
@@ -28,10 +28,24 @@ soundWith r n = sound r && equal n (pos (granules r))
 
 -- ---- up
 
--- "Up from an instant: its label or 'none'."
-unfoldable pub upFromInstant : Row → ℤ → Reply (Option ℤ)
-unfolding meant sound
-upFromInstant r t = require 13 (sound r) (require 14 (inRange t) (answer (meant r t)))
+-- "the instant's place among the slot's own instants, from 1" (document 02, Req 08): how many of these are not after it
+unfoldable pub place : Row → ℤ → ℤ → ℕ
+unfolding granule
+place r j t = length (keep (λ u. leZ u t) (granule r j))
+
+-- a label, and an instant's place in its granule
+pub record Placed : Type 0 where
+  pub label : ℤ
+  pub place : ℕ
+
+unfoldable pub placed : Row → ℤ → Option Placed
+unfolding meant place
+placed r t = Option·map (λ j. record { label = j; place = place r j t }) (meant r t)
+
+-- "Up from an instant: its label or 'none'"; with its place (Req 08): "'None' has no place."
+unfoldable pub upFromInstant : Row → ℤ → Reply (Option Placed)
+unfolding placed sound
+upFromInstant r t = require 13 (sound r) (require 14 (inRange t) (answer (placed r t)))
 
 -- "the h label whose slot contains all of it, or 'none'", of the granule z of g
 unfoldable pub holder : Row → Row → ℤ → Option ℤ
@@ -71,11 +85,6 @@ down h g z room =
 -- "labelled instants per period"
 abbrev pub labelledInstants : Row → ℕ
 labelledInstants r = length (labelsOf (r .cells))
-
--- "the instant's place among the slot's own instants, from 1" (document 02, Req 08): how many of these are not after it
-unfoldable pub place : Row → ℤ → ℤ → ℕ
-unfolding granule
-place r j t = length (keep (λ u. leZ u t) (granule r j))
 
 -- "The length is the number of the slot's own instants." (document 02, Req 04)
 unfoldable pub granuleLength : Row → ℤ → ℕ

@@ -6,6 +6,7 @@ use jogipahn::Figured;
 use jogipahn::Heading;
 use jogipahn::Late;
 use jogipahn::Parted;
+use jogipahn::Placing;
 use jogipahn::Refusal;
 use jogipahn::Shortening;
 use jogipahn::Up;
@@ -41,16 +42,30 @@ fn print_up(up: Up) {
     }
 }
 
-// The slot of the instant t, by a reader and without.
-fn ask_up_instant(pool: &[i32], row: Heading, t: i64) {
-    print(b"slot of day ");
+fn print_placing(placing: Placing) {
+    match placing {
+        Placing::At(label, place) => {
+            print_number(label);
+            print(b", place ");
+            print_count(place as usize);
+            print(b"\n");
+        }
+        Placing::Nothing => print(b"none\n"),
+        Placing::Refused(refusal) => print_refused(refusal),
+    }
+}
+
+// The slot of the instant t and its place there, by a reader and without.
+fn ask_up_instant(what: &[u8], pool: &[i32], row: Heading, t: i64) {
+    print(what);
+    print(b" of day ");
     print_number(t);
     print(b": ");
     let period = row.period as i64;
     let distance = row.distance as i64;
-    print_up(super::read_up_instant(t, row_of(pool, row), period, distance));
+    print_placing(super::read_up_instant(t, row_of(pool, row), period, distance));
     print(b"the same without a reader: ");
-    print_up(jogipahn::up_instant(t, row_of(pool, row), period, distance));
+    print_placing(jogipahn::up_instant(t, row_of(pool, row), period, distance));
 }
 
 // The slot of h that holds the whole slot z of g.
@@ -174,9 +189,10 @@ fn ask_may_be_late(pool: &[i32], row: Heading, z: i64, d: i64, allowance: Allowa
 
 // Each question, answered and refused.
 pub fn ask(pool: &[i32], weeks: Heading, slots: Heading, working_weeks: Heading) {
-    ask_up_instant(pool, slots, 8);
-    ask_up_instant(pool, slots, 7);
-    ask_up_instant(pool, slots, Calendar::GREATEST_LABEL + 1);
+    ask_up_instant(b"slot", pool, slots, 8);
+    ask_up_instant(b"slot", pool, slots, 7);
+    ask_up_instant(b"slot", pool, slots, Calendar::GREATEST_LABEL + 1);
+    ask_up_instant(b"working week", pool, working_weeks, 12);
     ask_up_granule(pool, slots, weeks, 6);
     ask_up_granule(pool, slots, slots, Calendar::LEAST_LABEL - 1);
     ask_parts(pool, weeks, slots, working_weeks);

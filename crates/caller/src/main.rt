@@ -3,11 +3,11 @@
 
 ghost use mathlib.Core.Path.{_≡_};
 ghost use Rattle.calendar.specs.Questions.{given, upFromInstant};
-ghost use Rattle.questions.specs.Answers.{upReply};
+ghost use Rattle.questions.specs.Answers.{placedReply};
 use jogipahn::Conversion;
 use jogipahn::Heading;
+use jogipahn::Placing;
 use jogipahn::Reader;
-use jogipahn::Up;
 use printing::print;
 use printing::print_number;
 use printing::print_refusal;
@@ -71,9 +71,9 @@ fn convert_records(table: &[i32], headings: [Heading; ENTRIES], pool: &mut [i32]
     }
 }
 
-// The slot of the instant t, by a reader.
-fn read_up_instant(t: i64, cells: &[i32], period: i64, distance: i64) -> Up
-    ensures { λ r. ⌜ upReply r ≡ upFromInstant (given period distance (now (cells .entry))) t ⌝ }
+// The slot of the instant t and its place there, by a reader.
+fn read_up_instant(t: i64, cells: &[i32], period: i64, distance: i64) -> Placing
+    ensures { λ r. ⌜ placedReply r ≡ upFromInstant (given period distance (now (cells .entry))) t ⌝ }
 {
     Reader {
         cells,

@@ -1,7 +1,7 @@
 -- The answers to questions, each in terms of the meaning.
-use mathlib.Core.Path.{_≡_, refl, sym, _∙_, ap}
+use mathlib.Core.Path.{_≡_, refl, sym, _∙_, ap, subst}
 use mathlib.Core.Logic.{_↔_, _⊎_, inl, inr}
-use mathlib.Core.Option.{Option, none, some}
+use mathlib.Core.Option.{Option, none, some, Option·map, Option·some-injective, Option·none-ne-some}
 use mathlib.Core.Bool.{Bool, true, false, cond}
 use mathlib.Core.List.{List, [], _∷_, List·Memᴰ}
 use Prim.Native.Nat.{ℕ, suc, _≤_, _<_}
@@ -14,7 +14,7 @@ use Rattle.calendar.specs.Meaning.{Row, meant, Has, Inside, labelOf, empty, rai
 use Rattle.calendar.specs.Algebra.{Rising, Lists}
 use Rattle.calendar.specs.Lists.{any, keep, from, first, last, is, isSome}
 use Rattle.calendar.specs.Granules.{granule, inside, within}
-use Rattle.calendar.specs.Questions.{holder, madeUp, labelledInstants, place, granuleLength}
+use Rattle.calendar.specs.Questions.{holder, madeUp, labelledInstants, place, Placed, placed, granuleLength}
 use Rattle.granules.specs.Valid.{Valid}
 use Rattle.granules.proofs.Tests.{some-inj, none≢some, none-or-some, is-iff, leZ-iff}
 use Rattle.granules.proofs.Lists.{mem-from, mem-keep, all-iff, any-iff, length-from, rising-from, rising-keep, lists-unique, first-least, last-greatest}
@@ -145,6 +145,40 @@ place-lists r v j t l x = ap length (lists-unique l (keep f (granule r j)) x kep
       );
     }
 
+-- "from 1"
+pub place-positive : (r : Row) → Valid r → (j t : ℤ) → meant r t ≡ some j → 1 ≤ place r j t
+unfolding place
+place-positive r v j t e = member-length (keep (λ u. leZ u t) (granule r j))
+    (mem-keep (λ u. leZ u t) t (granule r j) .1 (granule-lists r v j .member t .0 e, leZ-iff t t .1 (simp ints (omega arith))))
+
+-- a label, with the place of t in that granule
+abbrev pub at-label : Row → ℤ → ℤ → Placed
+at-label r t j = record { label = j; place = place r j t }
+
+-- the label is the one that the row gives, and the place is the instant's in that granule
+pub placed-some : (r : Row) (t : ℤ) (p : Placed)
+    → (placed r t ≡ some p) ↔ ((meant r t ≡ some (p .label)) × (p .place ≡ place r (p .label) t))
+unfolding placed
+placed-some r t p = (
+  there (meant r t),
+  λ (e, q). ap (Option·map (at-label r t)) e ∙ ap (λ (n : ℕ). some (record { label = p .label; place = n })) (sym q),
+)
+  where
+    there : (o : Option ℤ) → Option·map (at-label r t) o ≡ some p → (o ≡ some (p .label)) × (p .place ≡ place r (p .label) t)
+    there none e = absurd (Option·none-ne-some p e)
+    there (some j) e =
+        subst (λ (x : Placed). (some j ≡ some (x .label)) × (x .place ≡ place r (x .label) t))
+        (Option·some-injective (at-label r t j) p e) (refl, refl)
+
+-- "'None' has no place."
+pub placed-none : (r : Row) (t : ℤ) → (placed r t ≡ none) ↔ (meant r t ≡ none)
+unfolding placed
+placed-none r t = (there (meant r t), λ e. ap (Option·map (at-label r t)) e)
+  where
+    there : (o : Option ℤ) → Option·map (at-label r t) o ≡ none → o ≡ none
+    there none e = refl
+    there (some j) e = absurd (Option·none-ne-some (at-label r t j) (sym e))
+
 -- ---- the length of a granule
 
 -- over the meaning: however the instants of the granule are listed, there are so many
@@ -159,9 +193,19 @@ place-last r v z =
     count-all (λ u. leZ u (last (granule r z))) (granule r z) .1
     (λ u m. leZ-iff u (last (granule r z)) .1 (last-at-least r v z u (granule-lists r v z .member u .1 m)))
 
+-- so that is what asking upward from the last instant would give, were there no range
+pub placed-last : (r : Row) → Valid r → (z : ℤ) → Has (meant r) z
+    → placed r (last (granule r z)) ≡ some (record { label = z; place = granuleLength r z })
+placed-last r v z h = placed-some r (last (granule r z)) (record { label = z; place = granuleLength r z }) .1
+    (last-labelled r v z h, sym (place-last r v z))
+
 pub length-positive : (r : Row) → Valid r → (z : ℤ) → Has (meant r) z → 1 ≤ granuleLength r z
 unfolding granuleLength
 length-positive r v z h = member-length (granule r z) (granule-lists r v z .member (h .0) .0 (h .1))
+
+pub place-at-most : (r : Row) (j t : ℤ) → place r j t ≤ granuleLength r j
+unfolding place granuleLength
+place-at-most r j t = count-at-most (λ u. leZ u t) (granule r j)
 
 -- a granule has no more instants than a period: they are among the P instants from its first on
 pub length-at-most : (r : Row) → Valid r → (z : ℤ) → Has (meant r) z → granuleLength r z ≤ r .period

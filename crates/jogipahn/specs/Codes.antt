@@ -9,7 +9,7 @@ use Rattle.integers.specs.Parts.{up}
 use Rattle.calendar.specs.Meaning.{Row}
 use Rattle.calendar.specs.Reply.{Reply}
 use Rattle.calendar.specs.Reply.Reply.{refused, answer}
-use Rattle.calendar.specs.Questions.{labelledInstants, soundWith}
+use Rattle.calendar.specs.Questions.{Placed, labelledInstants, soundWith}
 use Rattle.floats.specs.Figures.{Quotients}
 use Rattle.floats.specs.declared.Allowance.{Allowance}
 use Rattle.floats.specs.declared.Allowance.the-variants.{Fixed, Share}
@@ -21,7 +21,25 @@ use Rattle.conversion.specs.declared.Conversion.the-variants.{Refused, Converte
 abbrev pub refusalCode : ℕ → ℤ
 refusalCode n = negℤ (pos n)
 
--- ---- up: 1 with a label, 0 with none
+-- ---- up from an instant: 1 with a label and a place, 0 with none
+abbrev pub placedCode : Reply (Option Placed) → ℤ
+placedCode (refused n) = refusalCode n
+placedCode (answer none) = pos 0
+placedCode (answer (some p)) = pos 1
+
+-- the label, or 0
+abbrev pub placedLabel : Reply (Option Placed) → ℤ
+placedLabel (refused n) = pos 0
+placedLabel (answer none) = pos 0
+placedLabel (answer (some p)) = p .label
+
+-- the place, or 0
+abbrev pub placedPlace : Reply (Option Placed) → ℤ
+placedPlace (refused n) = pos 0
+placedPlace (answer none) = pos 0
+placedPlace (answer (some p)) = pos (p .place)
+
+-- ---- up from a granule: 1 with a label, 0 with none
 abbrev pub upCode : Reply (Option ℤ) → ℤ
 upCode (refused n) = refusalCode n
 upCode (answer none) = pos 0

@@ -9,12 +9,13 @@ ghost use Rattle.calendar.specs.Questions.{given};
 ghost use Rattle.calendar.specs.Questions as Q;
 ghost use Rattle.questions.specs.Answers.{upReply, counted, partsAfter, leastPeriod, mayBeLate};
 ghost use Rattle.jogipahn.specs.LeftCoded.{LeftCoded, SheetCoded};
-ghost use Rattle.jogipahn.specs.Codes.{refusalCode, upCode, upLabel, downCode, FiguresLeft, leastCode, triedLeft, lateCode, allowanceOf, conversionCode};
+ghost use Rattle.jogipahn.specs.Codes.{refusalCode, placedCode, placedLabel, placedPlace, upCode, upLabel, downCode, FiguresLeft, leastCode, triedLeft, lateCode, allowanceOf, conversionCode};
 use calendar::Refusal;
 use conversion::Conversion;
 use floats::Allowance;
 use questions::Figured;
 use questions::Late;
+use questions::Placing;
 use questions::Shortening;
 use questions::Up;
 use questions::down::Parted;
@@ -27,7 +28,7 @@ fn refusal_code(x: Refusal) -> i64
     0 - (x.number() as i64)
 }
 
-// An answer of up: 1 with a label, which goes into `label`, and 0 with none.
+// An answer of up from a slot: 1 with a label, which goes into `label`, and 0 with none.
 fn told(up: Up, label: &mut i64) -> i64
     ensures code { λ r. ⌜ r ≡ upCode (upReply up) ⌝ }
     ensures label { λ r. ⌜ now (label .exit) ≡ upLabel (upReply up) ⌝ }
@@ -48,7 +49,8 @@ fn told(up: Up, label: &mut i64) -> i64
     }
 }
 
-// The label of the instant t, in `label`: 1; or 0 if it has none.
+// The label of the instant t, in `label`, and its place among the slot's own instants, in `place`: 1; or 0 if it has
+// none.
 #[no_mangle]
 pub extern "C" fn jogipahn_up_instant(
     cells: &[i32],
@@ -56,12 +58,30 @@ pub extern "C" fn jogipahn_up_instant(
     distance: i64,
     t: i64,
     label: &mut i64,
+    place: &mut i64,
 ) -> i64
-    ensures code { λ r. ⌜ r ≡ upCode (Q.upFromInstant (given period distance (now (cells .entry))) t) ⌝ }
-    ensures label { λ r. ⌜ now (label .exit) ≡ upLabel (Q.upFromInstant (given period distance (now (cells .entry))) t) ⌝ }
+    ensures code { λ r. ⌜ r ≡ placedCode (Q.upFromInstant (given period distance (now (cells .entry))) t) ⌝ }
+    ensures label { λ r. ⌜ now (label .exit) ≡ placedLabel (Q.upFromInstant (given period distance (now (cells .entry))) t) ⌝ }
+    ensures place { λ r. ⌜ now (place .exit) ≡ placedPlace (Q.upFromInstant (given period distance (now (cells .entry))) t) ⌝ }
 {
-    let up = questions::up_instant(t, cells, period, distance);
-    told(up, label)
+    let placing = questions::up_instant(t, cells, period, distance);
+    match placing {
+        Placing::At(j, n) => {
+            *label = j;
+            *place = n as i64;
+            1
+        }
+        Placing::Nothing => {
+            *label = 0;
+            *place = 0;
+            0
+        }
+        Placing::Refused(x) => {
+            *label = 0;
+            *place = 0;
+            refusal_code(x)
+        }
+    }
 }
 
 // The label of the slot of h that contains the whole slot z of g, in `label`: 1; or 0 if there is none.

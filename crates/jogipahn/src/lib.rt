@@ -33,7 +33,7 @@
 // type whose values the caller makes or takes apart, since a proof cites a type where it is declared:
 //     calendar     Calendar, Refusal                  headings     Heading
 //     conversion   Conversion                         least_form   Shortest
-//     floats       Allowance, Figures                 questions    Up, Parted, Figured, Shortening, Late
+//     floats       Allowance, Figures                 questions    Placing, Up, Parted, Figured, Shortening, Late
 //     dates        Date, Dated, Instant               reader       Reader
 //     sheet_text   Written
 // A value that is only handed on, as a refusal within an answer, needs none. `crates/caller` is such a program.
@@ -95,7 +95,7 @@ pub use sheet_text::sheet;
 
 // A row with its period and distance. Its questions refuse 13 for a row that is not sound, and pass over the row once
 // for that:
-//     up_instant(t)        the slot of an instant, or none; refuses 14
+//     up_instant(t)        the slot of an instant and its place there, from 1, or none; refuses 14
 //     up_granule(h, z)     the slot of h that holds all of slot z, or none; refuses 14, 15
 //     down(g, z, parts)    the slots of g that make up slot z, rising, in a lent list; refuses 14, 15, 16, 17, and
 //                          leaves the list zero then
@@ -103,7 +103,7 @@ pub use sheet_text::sheet;
 //                          refuses 13 for another number
 //     least_period()       the least period, and how many divisors were tried for it
 //     may_be_late(z, d, a) whether slot z may be d instants late; refuses 14, 18, 15
-// Beyond the pass over each row up from a slot and down take time in proportion to the slots and their gaps.
+// Beyond the pass over each row up and down take time in proportion to the slots and their gaps.
 pub use reader::Reader;
 
 // Answers, and how late a delivery may be.
@@ -112,6 +112,7 @@ pub use floats::Figures;
 pub use least_form::Shortest;
 pub use questions::Figured;
 pub use questions::Late;
+pub use questions::Placing;
 pub use questions::Shortening;
 pub use questions::Up;
 pub use questions::down::Parted;

@@ -17,16 +17,22 @@ use Rattle.calendar.specs.Sound.{sound}
 use Rattle.calendar.specs.Least.{least}
 use Rattle.calendar.specs.Tries.{tries}
 use Rattle.calendar.specs.Lists.{filled}
-use Rattle.calendar.specs.Questions.{labelledInstants, granuleLength, soundWith}
+use Rattle.calendar.specs.Questions.{Placed, labelledInstants, granuleLength, soundWith}
 use Rattle.calendar.specs.Refusals.{numberOf}
 use Rattle.floats.specs.Figures.{Quotients}
 use Rattle.floats.specs.Allowance as F
 use Rattle.floats.specs.declared.Allowance.{Allowance}
+use Rattle.questions.specs.declared.Placing as Placing
 use Rattle.questions.specs.declared.Up as Up
 use Rattle.questions.specs.declared.down.Parted as Parted
 use Rattle.questions.specs.declared.Figured as Figured
 use Rattle.questions.specs.declared.Shortening as Shortening
 use Rattle.questions.specs.declared.Late as Late
+
+abbrev pub placedReply : Placing.Placing → Reply (Option Placed)
+placedReply (Placing.the-variants.At j n) = answer (some (record { label = j; place = n }))
+placedReply Placing.the-variants.Nothing = answer none
+placedReply (Placing.the-variants.Refused x) = refused (numberOf x)
 
 abbrev pub upReply : Up.Up → Reply (Option ℤ)
 upReply (Up.the-variants.Label j) = answer (some j)

@@ -17,7 +17,7 @@ ghost use Rattle.calendar.specs.Questions as Q;
 ghost use Rattle.calendar.specs.Questions.{given, upFromInstant, upFromGranule};
 ghost use Rattle.floats.specs.Allowance as F;
 ghost use Rattle.cursors.specs.Found.{Sound, Within, Labelled};
-ghost use Rattle.questions.specs.Answers.{upReply, FiguresOf, leastPeriod, shorteningReply, lateReply, mayBeLate};
+ghost use Rattle.questions.specs.Answers.{placedReply, upReply, FiguresOf, leastPeriod, shorteningReply, lateReply, mayBeLate};
 use calendar::Calendar;
 use calendar::LATE_LIMIT;
 use calendar::Refusal;
@@ -27,6 +27,13 @@ use floats::Figures;
 use least_form::Shortest;
 
 pub mod down;
+
+// The label of an instant, and its place among the slot's own instants, from 1; or none.
+pub enum Placing {
+    At(i64, u64),
+    Nothing,
+    Refused(Refusal),
+}
 
 // The label of the slot that holds what was asked about, or none.
 pub enum Up {
@@ -52,20 +59,24 @@ pub enum Late {
     Refused(Refusal),
 }
 
-// The label of the instant t, or none. Refuses 13, 14. Costs one pass over the row, for check 13.
-pub fn up_instant(t: i64, cells: &[i32], period: i64, distance: i64) -> Up
-    ensures { λ r. ⌜ upReply r ≡ upFromInstant (given period distance (now (cells .entry))) t ⌝ }
+// The label of the instant t and its place in that slot, or none. Refuses 13, 14. Costs one pass over the row, for
+// check 13, and a walk over the slot up to t.
+pub fn up_instant(t: i64, cells: &[i32], period: i64, distance: i64) -> Placing
+    ensures { λ r. ⌜ placedReply r ≡ upFromInstant (given period distance (now (cells .entry))) t ⌝ }
 {
     if !row_check::sound(cells, period, distance) {
-        return Up::Refused(Refusal::RowNotSound);
+        return Placing::Refused(Refusal::RowNotSound);
     }
     if !Calendar::in_range(t) {
-        return Up::Refused(Refusal::ArgumentOutsideLimits);
+        return Placing::Refused(Refusal::ArgumentOutsideLimits);
     }
     let label = cursors::label_at(cells, period, distance, t);
     match label {
-        Found::At(j) => Up::Label(j),
-        Found::Nothing => Up::Nothing,
+        Found::At(j) => {
+            let place = granule_ends::place(cells, period, distance, t);
+            Placing::At(j, place)
+        }
+        Found::Nothing => Placing::Nothing,
     }
 }
 

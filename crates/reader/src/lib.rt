@@ -3,6 +3,7 @@
 use floats::Allowance;
 use questions::Figured;
 use questions::Late;
+use questions::Placing;
 use questions::Shortening;
 use questions::Up;
 use questions::down::Parted;
@@ -10,7 +11,7 @@ ghost use mathlib.Core.Path.{_≡_};
 ghost use lib.ListN.{length};
 ghost use Rattle.calendar.specs.Questions as Q;
 ghost use Rattle.calendar.specs.Questions.{given, upFromInstant, upFromGranule};
-ghost use Rattle.questions.specs.Answers.{upReply, partsReply, counted, partsAfter, FiguresOf, leastPeriod, shorteningReply, lateReply, mayBeLate};
+ghost use Rattle.questions.specs.Answers.{placedReply, upReply, partsReply, counted, partsAfter, FiguresOf, leastPeriod, shorteningReply, lateReply, mayBeLate};
 
 // One row, borrowed together with its period and distance.
 pub struct Reader<'a> {
@@ -20,10 +21,11 @@ pub struct Reader<'a> {
 }
 
 impl<'a> Reader<'a> {
-    // The label of the instant t, or none. Refuses 13 for a row that is not sound, then 14 for t outside
-    // ±1,000,000,000. Costs one pass over the row, and a division.
-    pub fn up_instant(self, t: i64) -> Up
-        ensures { λ r. ⌜ upReply r ≡ upFromInstant (given (self .entry .period) (self .entry .distance) (now (self .entry .cells))) t ⌝ }
+    // The label of the instant t and its place among the slot's own instants, from 1, or none. Refuses 13 for a row
+    // that is not sound, then 14 for t outside ±1,000,000,000. Costs one pass over the row, and a walk over the slot
+    // up to t.
+    pub fn up_instant(self, t: i64) -> Placing
+        ensures { λ r. ⌜ placedReply r ≡ upFromInstant (given (self .entry .period) (self .entry .distance) (now (self .entry .cells))) t ⌝ }
     {
         questions::up_instant(t, self.cells, self.period, self.distance)
     }

@@ -55,6 +55,14 @@ pub fn tomorrow((year, month, day): Date) -> Date {
     }
 }
 
+/// A date's place in its year, from 1.
+pub fn day_of_year((year, month, day): Date) -> i64 {
+    (1..month)
+        .map(|month| month_length(year, month))
+        .sum::<i64>()
+        + day
+}
+
 /// The slots of a date's month and of its year.
 pub fn slots_of((year, month, _): Date) -> (i64, i64) {
     let year_slot = year - FIRST_YEAR + 1;
@@ -90,13 +98,10 @@ pub fn instant(year: i64, month: i64, day: i64) -> Result<i64, u32> {
     let years = i128::from(year) - i128::from(FIRST_YEAR);
     let rounds = years.div_euclid(ROUND.into());
     let gone = years.rem_euclid(ROUND.into()) as i64;
-    let days: i64 = (FIRST_YEAR..FIRST_YEAR + gone)
+    let days = (FIRST_YEAR..FIRST_YEAR + gone)
         .map(year_length)
         .sum::<i64>()
-        + (1..month)
-            .map(|month| month_length(year, month))
-            .sum::<i64>()
-        + day;
+        + day_of_year((year, month, day));
     let t = rounds * i128::from(*DAYS_OF_A_ROUND) + i128::from(days);
     if within_limit(t) {
         Ok(t as i64)

@@ -25,11 +25,14 @@ pub enum Allowance {
     Share(f64),
 }
 
-/// The label of an instant, or none.
-pub fn up_instant(row: Row, t: i64) -> Result<Option<i64>, u32> {
+/// The label of an instant and its place among the slot's own instants, from
+/// 1; or none.
+pub fn up_instant(row: Row, t: i64) -> Result<Option<(i64, u64)>, u32> {
     let calendar = Calendar::tested(row)?;
     within_limit(t)?;
-    Ok(calendar.label(t))
+    Ok(calendar
+        .label(t)
+        .map(|label| (label, calendar.place(t, label))))
 }
 
 /// The label of h's slot that holds all of g's slot z, or none.
@@ -241,6 +244,13 @@ impl<'a> Calendar<'a> {
         (cell != EMPTY).then(|| i64::from(cell) + self.distance * t.div_euclid(self.period))
     }
 
+    /// How many instants of t's slot, whose label is given, are not after t.
+    fn place(&self, t: i64, label: i64) -> u64 {
+        let (first, _) = self.slot(label).expect("t has the label");
+        let span = self.labels_from(first).take((t - first + 1) as usize);
+        span.filter(|&other| other == Some(label)).count() as u64
+    }
+
     /// The labels of t, t + 1 and so on, without end.
     fn labels_from(&self, t: i64) -> impl Iterator<Item = Option<i64>> + 'a {
         let Calendar {
@@ -384,15 +394,35 @@ mod tests {
 
     #[test]
     fn up_from_an_instant() {
-        assert_eq!(up_instant(B, 8), Ok(Some(8)));
-        assert_eq!(up_instant(C, 8), Ok(Some(6)));
+        assert_eq!(up_instant(B, 8), Ok(Some((8, 1))));
+        assert_eq!(up_instant(C, 8), Ok(Some((6, 1))));
         assert_eq!(up_instant(C, 7), Ok(None));
-        assert_eq!(up_instant(W, -6), Ok(Some(0)));
-        assert_eq!(up_instant(W, -7), Ok(Some(-1)));
+        assert_eq!(up_instant(W, -6), Ok(Some((0, 1))));
+        assert_eq!(up_instant(W, -7), Ok(Some((-1, 7))));
         assert_eq!(up_instant(W, 1_000_000_001), Err(14));
         assert_eq!(up_instant(W, -1_000_000_001), Err(14));
         let far = row(&[1_000_000_000], 1, 1);
-        assert_eq!(up_instant(far, 1_000_000_000), Ok(Some(2_000_000_000)));
+        let answer = up_instant(far, 1_000_000_000);
+        assert_eq!(answer, Ok(Some((2_000_000_000, 1))));
+    }
+
+    #[test]
+    fn the_place_of_an_instant() {
+        // The fifth working day of case 5.
+        assert_eq!(up_instant(WORKING_WEEK, 5), Ok(Some((1, 5))));
+        assert_eq!(up_instant(WORKING_WEEK, 8), Ok(Some((2, 1))));
+        // A closed Wednesday has no place, and takes none.
+        let closed = row(&[NONE, 1, 1, NONE, 1, 1, NONE], 7, 1);
+        assert_eq!(up_instant(closed, 2), Ok(Some((1, 2))));
+        assert_eq!(up_instant(closed, 3), Ok(None));
+        assert_eq!(up_instant(closed, 4), Ok(Some((1, 3))));
+        assert_eq!(up_instant(closed, -2), Ok(Some((0, 4))));
+        // A slot that begins in the turn before.
+        let turned = row(&[1, NONE, 1, 2, NONE, 3], 6, 2);
+        assert_eq!(up_instant(turned, 5), Ok(Some((3, 1))));
+        assert_eq!(up_instant(turned, 6), Ok(Some((3, 2))));
+        assert_eq!(up_instant(turned, 8), Ok(Some((3, 3))));
+        assert_eq!(up_instant(turned, 2), Ok(Some((1, 3))));
     }
 
     #[test]
@@ -587,9 +617,9 @@ mod tests {
         }
         assert_eq!(
             up_instant(row(&long[1..], CELL_LIMIT as i64, 1), 0),
-            Ok(Some(0))
+            Ok(Some((0, 1)))
         );
-        assert_eq!(up_instant(row(&[0, 1], 2, 1), 2), Ok(Some(1)));
+        assert_eq!(up_instant(row(&[0, 1], 2, 1), 2), Ok(Some((1, 2))));
     }
 
     #[test]

@@ -8,8 +8,8 @@ use Rattle.hand_proofs.proofs.Steps.{cell, puts, dies}
 use Rattle.reader.specs.declared.Reader.{Reader}
 use Rattle.reader.proofs.Reader.Laws as T′
 use Rattle.reader.proofs.Fields.{num, cellsTy, fields, row, reader, made, read, fields-first}
-use Rattle.questions.proofs.Up as N
-use Rattle.questions.proofs.Up.Laws as N′
+use Rattle.questions.proofs.Placing as N
+use Rattle.questions.proofs.Placing.Laws as N′
 use Rattle.reader.proofs.Reader.up_instant as g
 use Rattle.reader.proofs.Reader.up_instant.Symbol as g-def
 use Rattle.reader.proofs.Reader.up_instant.Symbol.{name as #reader·Reader·up-instant}

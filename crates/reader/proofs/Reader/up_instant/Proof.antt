@@ -8,8 +8,8 @@ use Rattle.hand_proofs.proofs.Steps.{cell, part, puts, dies}
 use Rattle.reader.specs.declared.Reader.{Reader}
 use Rattle.reader.proofs.Reader.Laws as T′
 use Rattle.reader.proofs.Fields.{num, fields, Row, row, reader, fields-last}
-use Rattle.questions.proofs.Up as N
-use Rattle.questions.proofs.Up.Laws as N′
+use Rattle.questions.proofs.Placing as N
+use Rattle.questions.proofs.Placing.Laws as N′
 use Rattle.questions.proofs.up_instant as g
 use Rattle.questions.proofs.up_instant.Symbol as g-def
 use Rattle.questions.proofs.up_instant.Symbol.{name as #questions·up-instant}
