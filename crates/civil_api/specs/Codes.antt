@@ -5,10 +5,11 @@ use mathlib.Core.Bool.{cond}
 use mathlib.Core.List.{List, _++_}
 use Prim.Native.Nat.{ℕ, _-_}
 use lib.Dec.{leb}
-use lib.IntN.{ℤ, pos, negsuc, negℤ}
+use lib.IntN.{ℤ, pos, negsuc}
 use lib.ListN.{replicate}
 use Rattle.calendar.specs.Reply.{Reply}
 use Rattle.calendar.specs.Reply.Reply.{refused, answer}
+use Rattle.codes.specs.Codes.{refusalCode}
 use Rattle.civil.specs.Rule.{Date, date}
 use Rattle.civil.specs.Table.{civilTable}
 
@@ -22,9 +23,6 @@ abbrev pub tableLeft : ℕ → List ℤ
 tableLeft n = cond (leb 66 n) (civilTable ++ replicate (n - 66) (pos 0)) (replicate n (pos 0))
 
 -- ---- dates and instants: 0, or a refusal
-
-abbrev pub refusalCode : ℕ → ℤ
-refusalCode n = negℤ (pos n)
 
 abbrev pub dateCode : Reply Date → ℤ
 dateCode (refused n) = refusalCode n

@@ -3,11 +3,9 @@
 ghost use mathlib.Core.Path.{_≡_};
 ghost use lib.IntN.{pos};
 ghost use lib.ListN.{length, getD};
-ghost use Rattle.calendar.specs.Refusals.{numberOf};
 ghost use Rattle.civil.specs.Instants.{instantReply};
 ghost use Rattle.civil.specs.Asked.{dateReply};
-ghost use Rattle.civil_api.specs.Codes.{tableCode, tableLeft, refusalCode, DateLeft, instantCode, instantLeft};
-use calendar::Refusal;
+ghost use Rattle.civil_api.specs.Codes.{tableCode, tableLeft, DateLeft, instantCode, instantLeft};
 use dates::Dated;
 use dates::Instant;
 
@@ -39,13 +37,6 @@ pub fn table(list: &mut [i32]) -> i64
     if n < 66 { -1 } else { 66 }
 }
 
-// A refusal as a number.
-fn refusal_code(x: Refusal) -> i64
-    ensures { λ r. ⌜ r ≡ refusalCode (numberOf x) ⌝ }
-{
-    0 - (x.number() as i64)
-}
-
 // The date of the instant t: 0; or a refusal, with zeros.
 pub fn date(t: i64, year: &mut i64, month: &mut i64, day: &mut i64) -> i64
     ensures { λ r. ⌜ DateLeft (dateReply t) r (now (year .exit)) (now (month .exit)) (now (day .exit)) ⌝ }
@@ -63,7 +54,7 @@ pub fn date(t: i64, year: &mut i64, month: &mut i64, day: &mut i64) -> i64
             *year = 0;
             *month = 0;
             *day = 0;
-            refusal_code(x)
+            codes::refusal_code(x)
         }
     }
 }
@@ -81,7 +72,7 @@ pub fn instant(year: i64, month: i64, day: i64, t: &mut i64) -> i64
         }
         Instant::Refused(x) => {
             *t = 0;
-            refusal_code(x)
+            codes::refusal_code(x)
         }
     }
 }

@@ -1,4 +1,4 @@
--- `civil_api::refusal_code` meets its contract: a number of 32 bits, with its sign changed, fits 64.
+-- `codes::refusal_code` meets its contract: a number of 32 bits, with its sign changed, fits 64.
 -- Assumes nothing.
 use borrow.Author.Needs.{needs}
 use mathlib.Core.Path.{_≡_, ap, _∙_}
@@ -10,8 +10,8 @@ use mir.Val.{SFits, ofZ, toZ}
 use mir.Facts.{toZ-ofZ}
 use Rattle.integers.proofs.Linear.{ints}
 use Rattle.integers.proofs.Machine.{plain}
-use Rattle.civil_api.proofs.refusal_code.Statement.{statement}
-use Rattle.civil_api.proofs.refusal_code.Tie as tie
+use Rattle.codes.proofs.refusal_code.Statement.{statement}
+use Rattle.codes.proofs.refusal_code.Tie as tie
 
 fits-minus : (n : ℕ) → n < 2 ^ 63 → SFits w64 (pos 0 -ℤ toZ w64 n)
 fits-minus n h = simp (plain, ints) (omega arith)

@@ -1,0 +1,3 @@
+-- Numbers for C.
+--     Codes        refusals, and replies, as numbers
+pub mod Codes
