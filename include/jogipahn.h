@@ -1,4 +1,4 @@
-/* The conversion of a table of calendars to rows, questions to a row, and dates. `rt staticlib jogipahn` writes the archive that
+/* The conversion of a table of calendars to rows, questions to a row or to its open map, and dates. `rt staticlib jogipahn` writes the archive that
  * has the functions, target/staticlib/libjogipahn.a (link with -lm).
  *
  * A row is the labels of the instants 0 to period - 1, and INT32_MIN for an instant that has none; the instants with one
@@ -6,9 +6,10 @@
  * distance, and answers with one number. One below zero is a refusal, its number with the sign changed:
  *
  *     -13   a row is not sound: its length is not the period, not 1 <= distance <= period <= 4,194,304, a label is outside the
- *           limits, no instant has a label, or labels fall; or the slots per period that are handed in with it are not its own
+ *           limits, no instant has a label, or labels fall; or the slots per period that are handed in with it are not its own;
+ *           or an open map is none, or the list lent for one has the wrong length
  *     -14   an argument is outside the limits: a label or an instant outside -1,000,000,000 to 1,000,000,000, or a lateness
- *           outside 0 to 1,048,576
+ *           outside 0 to 1,048,576; or a stretch of instants ends before it begins
  *     -15   z is not a label of its row
  *     -16   the slots do not make up the whole slot
  *     -17   the list is too short for the parts
@@ -99,6 +100,26 @@ int64_t jogipahn_least_period(const int32_t *cells, size_t len, int64_t period, 
  * other rule are refused with 18; a fixed 0 is not. Refusals: 13, 14, 18, 15. */
 int64_t jogipahn_may_be_late(const int32_t *cells, size_t len, int64_t period, int64_t distance,
                              int64_t z, int64_t d, int64_t rule, double amount);
+
+/* The open map of a row: 0 with a bit for each cell in the words, set where the instant has a label. Cell c has weight 2^(c mod 64) in
+ * words[c / 64], and unused bits of the last word are 0. The list must have just the words for the row's cells, (period + 63) / 64; one
+ * of another length is refused with 13. All of it is 0 after a refusal. Refusals: 13. */
+int64_t jogipahn_open_map(const int32_t *cells, size_t len, int64_t period, int64_t distance, uint64_t *words, size_t n);
+
+/* The questions below take an open map and its period, whoever made it; the instants that its bits show are open, repeated every
+ * period. It is a map where the period is 1 to 4,194,304, there are (period + 63) / 64 words, unused bits of the last word are 0 and a
+ * bit is set; else it is 13. They go over whole words, not cells. */
+
+/* How many instants are open from s up to but not including t: the count, 0 for s = t. Refusals: 13; 14, also for s > t. */
+int64_t jogipahn_count_open(const uint64_t *words, size_t n, int64_t period, int64_t s, int64_t t);
+
+/* The least open instant above x: 0 with the instant in *found, and 0 there after a refusal. It may be past 1,000,000,000. Refusals: 13,
+ * 14. */
+int64_t jogipahn_next_open(const uint64_t *words, size_t n, int64_t period, int64_t x, int64_t *found);
+
+/* The greatest open instant below x: 0 with the instant in *found, and 0 there after a refusal. It may be past -1,000,000,000. Refusals:
+ * 13, 14. */
+int64_t jogipahn_last_open(const uint64_t *words, size_t n, int64_t period, int64_t x, int64_t *found);
 
 #ifdef __cplusplus
 }

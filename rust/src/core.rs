@@ -8,12 +8,17 @@
 pub use conversion::convert;
 #[cfg(feature = "dates")]
 pub use dates::{civil_table, civil_table_into, date, instant};
+#[cfg(feature = "open")]
+pub use open::{count_open, last_open, next_open, open_map, open_map_into};
 #[cfg(feature = "questions")]
 pub use questions::{
     down, figures, least_period, may_be_late, may_be_late_by, up_granule, up_instant,
 };
 #[cfg(feature = "sheet")]
 pub use sheet::{sheet, sheet_into};
+
+#[cfg(feature = "open")]
+mod open;
 
 #[cfg(feature = "questions")]
 mod questions {

@@ -3,9 +3,9 @@
 //!
 //! - [`second`] is the second implementation, written from documents 01 and 02 alone.
 //! - [`core`] wraps the C functions of the proved core in the same signatures.
-//! - [`random`], [`tables`], [`texts`] and [`rows`] make random numbers, tables,
-//!   texts, and rows with questions to them, all from a seed.
-//! - [`timing`] measures both sides.
+//! - [`random`], [`tables`], [`texts`], [`rows`] and [`maps`] make random numbers,
+//!   tables, texts, and rows and open maps with questions to them, all from a seed.
+//! - [`counts`] tells what came out of a comparison, [`timing`] measures both sides.
 //! - [`vectors`] chooses the stored tables of the program `vectors` and says what
 //!   it has to print; `cargo run --release --bin vectors` writes both.
 //!
@@ -17,11 +17,15 @@
 //! cargo test --release --features conversion --test conversion -- --nocapture
 //! cargo test --release --features sheet      --test sheet      -- --nocapture
 //! cargo test --release --features questions,conversion,dates --test dates -- --nocapture
+//! cargo test --release --features open       --test open       -- --nocapture
 //! cargo run  --release --features questions        --bin bench_questions
 //! cargo run  --release --features conversion,dates --bin bench_conversion
+//! cargo run  --release --features open             --bin bench_open
 //! ```
 
 pub mod core;
+pub mod counts;
+pub mod maps;
 pub mod random;
 pub mod rows;
 pub mod second;

@@ -35,6 +35,7 @@
 //     conversion   Conversion                         least_form   Shortest
 //     floats       Allowance, Figures                 questions    Placing, Up, Parted, Figured, Shortening, Late
 //     dates        Date, Dated, Instant               reader       Reader
+//     open_map     OpenNumber, OpenInstant            row_maps     Made
 //     sheet_text   Written
 // A value that is only handed on, as a refusal within an answer, needs none. `crates/caller` is such a program.
 
@@ -103,6 +104,7 @@ pub use sheet_text::sheet;
 //                          refuses 13 for another number
 //     least_period()       the least period, and how many divisors were tried for it
 //     may_be_late(z, d, a) whether slot z may be d instants late; refuses 14, 18, 15
+//     open_map(words)      the open map of the row, in lent words
 // Beyond the pass over each row up and down take time in proportion to the slots and their gaps.
 pub use reader::Reader;
 
@@ -139,6 +141,25 @@ pub use dates::Instant;
 pub use dates::date_of;
 pub use dates::instant_of;
 
+// Open maps: one bit for each cell of a row, set where the cell has a label, in words of 64 bits: cell c is bit c mod 64 of
+// word c / 64. A map stands for its open instants, which repeat every period. Refuses 13 for a number of words that does
+// not fit the period, a period outside 1 to POOL_LIMIT, a bit set behind the last cell, or no bit set; then 14 for an
+// instant outside the limits, and for s > t.
+//     make_open_map(words, cells, period, distance)   the map of a row; refuses 13 as a question to the row does and
+//                                                     where the words are not as many as it takes, and leaves zeros then
+//     count_open(words, period, s, t)                 how many open instants there are from s up to but not including t
+//     next_open(words, period, x)                     the next open instant above x
+//     last_open(words, period, x)                     the last open instant below x
+// Making one passes over the row twice. A question passes over the words, not the cells: three times at the most.
+pub use open_map::OpenInstant;
+pub use open_map::OpenNumber;
+pub use open_map::count as count_open;
+pub use open_map::last as last_open;
+pub use open_map::next as next_open;
+pub use row_maps::Made;
+pub use row_maps::make as make_open_map;
+
 // The same for C, as include/jogipahn.h declares them.
 mod c_api;
 mod c_civil;
+mod c_open;

@@ -7,11 +7,13 @@ use questions::Placing;
 use questions::Shortening;
 use questions::Up;
 use questions::down::Parted;
+use row_maps::Made;
 ghost use mathlib.Core.Path.{_≡_};
 ghost use lib.ListN.{length};
 ghost use Rattle.calendar.specs.Questions as Q;
 ghost use Rattle.calendar.specs.Questions.{given, upFromInstant, upFromGranule};
 ghost use Rattle.questions.specs.Answers.{placedReply, upReply, partsReply, counted, partsAfter, FiguresOf, leastPeriod, shorteningReply, lateReply, mayBeLate};
+ghost use Rattle.row_maps.specs.Making.{made, mapReply, mapAfter, refusal};
 
 // One row, borrowed together with its period and distance.
 pub struct Reader<'a> {
@@ -90,5 +92,14 @@ impl<'a> Reader<'a> {
             g.period,
             g.distance,
         )
+    }
+
+    // The open map of the row, in `words`: one bit for each cell, set where the cell has a label; all zero after a
+    // refusal. Refuses 13, also where the words are not as many as the row takes. Costs two passes over the row.
+    pub fn open_map<'w>(self, words: &'w mut [u64]) -> Made
+        ensures answered { λ r. ⌜ made r ≡ refusal (mapReply (given (self .entry .period) (self .entry .distance) (now (self .entry .cells))) (length (now (words .entry)))) ⌝ }
+        ensures written { λ r. ⌜ now (words .exit) ≡ mapAfter (length (now (words .entry))) (mapReply (given (self .entry .period) (self .entry .distance) (now (self .entry .cells))) (length (now (words .entry)))) ⌝ }
+    {
+        row_maps::make(words, self.cells, self.period, self.distance)
     }
 }

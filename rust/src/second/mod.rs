@@ -11,6 +11,7 @@ pub mod dates;
 mod kinds;
 mod least;
 mod numbers;
+pub mod open;
 pub mod questions;
 pub mod sheet;
 mod slots;

@@ -167,7 +167,7 @@ pub fn may_be_late(row: Row, z: i64, d: i64, rule: Allowance) -> Result<bool, u3
     })
 }
 
-fn within_limit(number: i64) -> Result<(), u32> {
+pub(super) fn within_limit(number: i64) -> Result<(), u32> {
     let limit = i64::from(LABEL_LIMIT);
     if (-limit..=limit).contains(&number) {
         Ok(())
@@ -178,6 +178,11 @@ fn within_limit(number: i64) -> Result<(), u32> {
 
 fn quotient(numerator: i64, denominator: i64) -> f64 {
     numerator as f64 / denominator as f64
+}
+
+/// Tests a row by rule 13.
+pub(super) fn test(row: Row) -> Result<(), u32> {
+    Calendar::tested(row).map(|_| ())
 }
 
 /// A row that has passed rule 13.
