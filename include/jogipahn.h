@@ -9,7 +9,8 @@
  *           limits, no instant has a label, or labels fall; or the slots per period that are handed in with it are not its own;
  *           or an open map is none, or the list lent for one has the wrong length
  *     -14   an argument is outside the limits: a label or an instant outside -1,000,000,000 to 1,000,000,000, or a lateness
- *           outside 0 to 1,048,576; or a stretch of instants ends before it begins
+ *           outside 0 to 1,048,576, or a number of steps outside -1,000,000 to 1,000,000; or a stretch of instants ends before it
+ *           begins
  *     -15   z is not a label of its row
  *     -16   the slots do not make up the whole slot
  *     -17   the list is too short for the parts
@@ -120,6 +121,16 @@ int64_t jogipahn_next_open(const uint64_t *words, size_t n, int64_t period, int6
 /* The greatest open instant below x: 0 with the instant in *found, and 0 there after a refusal. It may be past -1,000,000,000. Refusals:
  * 13, 14. */
 int64_t jogipahn_last_open(const uint64_t *words, size_t n, int64_t period, int64_t x, int64_t *found);
+
+/* The instant so many steps from x: 1 with the instant in *found; 0 if there is none. A step forward goes to the least open instant
+ * above, a step backward, for steps below 0, to the greatest below. Zero steps give x if x is open and none otherwise; nothing else
+ * gives none. *found is 0 after 0 and after a refusal. It may be past the limits of x. From an open x, n steps and then -n steps give
+ * x, as long as the instant reached is within the limits. Refusals: 13, 14. */
+int64_t jogipahn_nth_open(const uint64_t *words, size_t n, int64_t period, int64_t x, int64_t steps, int64_t *found);
+
+/* How many instants t with x < t <= y are open, and minus that for the pair the other way round: 0 with the number in *number, and 0
+ * there after a refusal. Refusals: 13, 14. */
+int64_t jogipahn_between(const uint64_t *words, size_t n, int64_t period, int64_t x, int64_t y, int64_t *number);
 
 #ifdef __cplusplus
 }

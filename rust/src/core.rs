@@ -9,7 +9,7 @@ pub use conversion::convert;
 #[cfg(feature = "dates")]
 pub use dates::{civil_table, civil_table_into, date, instant};
 #[cfg(feature = "open")]
-pub use open::{count_open, last_open, next_open, open_map, open_map_into};
+pub use open::{between, count_open, last_open, next_open, nth_open, open_map, open_map_into};
 #[cfg(feature = "questions")]
 pub use questions::{
     down, figures, least_period, may_be_late, may_be_late_by, up_granule, up_instant,

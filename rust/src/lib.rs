@@ -18,6 +18,7 @@
 //! cargo test --release --features sheet      --test sheet      -- --nocapture
 //! cargo test --release --features questions,conversion,dates --test dates -- --nocapture
 //! cargo test --release --features open       --test open       -- --nocapture
+//! cargo test --release --features open       --test open_steps -- --nocapture
 //! cargo run  --release --features questions        --bin bench_questions
 //! cargo run  --release --features conversion,dates --bin bench_conversion
 //! cargo run  --release --features open             --bin bench_open

@@ -4,7 +4,9 @@
 use jogipahn_compare::maps::{instant_in_range, shaped_map, OwnMap, SHAPES};
 use jogipahn_compare::random::Random;
 use jogipahn_compare::rows::whole_row;
-use jogipahn_compare::second::open::{count_open, last_open, next_open, open_map, words_for};
+use jogipahn_compare::second::open::{
+    between, count_open, last_open, next_open, nth_open, open_map, words_for,
+};
 
 /// "One bit for each cell, in words of 64 (cell c has weight 2^(c mod 64) in
 /// word floor(c/64))", repeated every P.
@@ -38,6 +40,41 @@ fn counts_and_finds() {
     }
     println!("{counted} instants counted");
     assert!(counted >= 1_000_000);
+}
+
+#[test]
+fn steps() {
+    let mut none = 0;
+    for seed in 0..20_000 {
+        let mut random = Random::new(0x57E9_0000 + seed);
+        let map = small_map(&mut random);
+        let x = instant_in_range(&mut random, map.period);
+        let open_one = |t: &i64| is_open(&map, *t);
+        // "One step forward is the least open instant above x, n steps are n
+        // such steps, and backward alike."
+        let mut at = x;
+        for n in 1..=20 {
+            at = (at + 1..).find(open_one).unwrap();
+            assert_eq!(nth_open(&map.words, map.period, x, n), Ok(Some(at)));
+        }
+        let mut at = x;
+        for n in 1..=20 {
+            at = (1..).map(|back| at - back).find(open_one).unwrap();
+            assert_eq!(nth_open(&map.words, map.period, x, -n), Ok(Some(at)));
+        }
+        // "Zero steps give x if x is open and none otherwise."
+        let zero = is_open(&map, x).then_some(x);
+        assert_eq!(nth_open(&map.words, map.period, x, 0), Ok(zero));
+        none += u64::from(zero.is_none());
+        // "The open instants t with x < t ≤ y, and minus that for the pair the
+        // other way round."
+        let y = (x + random.range(0, 700)).min(1_000_000_000);
+        let count = (x + 1..=y).filter(open_one).count() as i64;
+        assert_eq!(between(&map.words, map.period, x, y), Ok(count));
+        assert_eq!(between(&map.words, map.period, y, x), Ok(-count));
+    }
+    println!("{none} times none");
+    assert!(none >= 5_000);
 }
 
 #[test]
@@ -85,6 +122,8 @@ fn what_is_no_map() {
         assert_eq!(count_open(words, period, 1, 0), Err(13));
         assert_eq!(next_open(words, period, i64::MAX), Err(13));
         assert_eq!(last_open(words, period, i64::MIN), Err(13));
+        assert_eq!(nth_open(words, period, 0, i64::MIN), Err(13));
+        assert_eq!(between(words, period, 0, i64::MIN), Err(13));
     }
     let mut words = vec![u64::MAX; 65_537];
     assert_eq!(ask(&words[..65_536], 4_194_304), Ok(1));

@@ -1,8 +1,7 @@
 -- How large the numbers are with which the walk starts.
 -- Assumes nothing.
 use mathlib.Core.Path.{_≡_, sym}
-use Prim.Native.Nat.{ℕ, suc, _+_, _*_, _^_, _≤_}
-use native.Mathlib.Nat.{mul-le-mul-right}
+use Prim.Native.Nat.{ℕ, _+_, _^_, _≤_}
 use native.Mathlib.Omega.{arith}
 use lib.IntN.{ℤ, pos, negsuc, negℤ, _+ℤ_, _-ℤ_, _*ℤ_}
 use lib.Signed.{_≤ℤ_, _<ℤ_}
@@ -11,11 +10,11 @@ use mir.Val.{SFits}
 use Rattle.integers.specs.Parts.{up}
 use Rattle.integers.specs.Floor.{floorDiv}
 use Rattle.integers.proofs.Linear.{ints, _∴_}
-use Rattle.integers.proofs.Order.{mul-mono, pos-up}
+use Rattle.integers.proofs.Order.{pos-up}
 use Rattle.integers.proofs.Floor.{floor-eq, floor-lt}
 use Rattle.calendar.specs.Algebra.{changes}
 use Rattle.cursors.specs.Found.{Within}
-use Rattle.cursors.proofs.Numbers.{rise-bound}
+use Rattle.cursors.proofs.Numbers.{rise-bound, product-within}
 use Rattle.kinds.specs.declared.Alteration.{Alteration}
 use Rattle.kinds.specs.Limits.{Limits}
 
@@ -44,15 +43,6 @@ small by l =
       y-fits = l .y-low ∴ l .y-high ∴ l .x-high ∴ simp ints (omega arith);
       z-fits = l .z-low ∴ l .z-high ∴ simp ints (omega arith);
     }
-
--- a product is within the product of the bounds
-product-within : (A B : ℕ) (h z : ℤ) → Within A h → Within B z → Within (A * B) (h *ℤ z)
-product-within A B (pos n) z k l =
-    let few : n ≤ A = k .1 ∴ simp ints (omega arith) in
-    mul-mono n (l .0) ∴ mul-mono n (l .1) ∴ mul-le-mul-right B few ∴ simp ints (omega arith)
-product-within A B (negsuc n) z k l =
-    let few : suc n ≤ A = k .0 ∴ simp ints (omega arith) in
-    mul-mono (suc n) (l .0) ∴ mul-mono (suc n) (l .1) ∴ mul-le-mul-right B few ∴ simp ints (omega arith)
 
 pub changes-within : (x y : ℕ) (i : ℤ) → 1 ≤ x → x ≤ 1000000 → y ≤ 1000000 → Within (2 ^ 32) i → Within (2 ^ 33) (changes x y (i -ℤ pos 1))
 changes-within x y i above small few h =

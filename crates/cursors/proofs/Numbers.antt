@@ -1,8 +1,8 @@
--- What check 13 says of the numbers of a row that is handed in.
+-- What check 13 says of the numbers of a row that is handed in, and bounds of the numbers on the way.
 -- Assumes nothing.
-use mathlib.Core.Path.{_≡_, refl, _∙_, ap}
+use mathlib.Core.Path.{_≡_, _∙_, ap}
 use mathlib.Core.List.{List}
-use Prim.Native.Nat.{ℕ, suc, _+_, _≤_, _<_}
+use Prim.Native.Nat.{ℕ, suc, _+_, _*_, _≤_, _<_}
 use native.Mathlib.Nat.{mul-le-mul-right}
 use native.Mathlib.Omega.{arith}
 use lib.IntN.{ℤ, pos, negsuc, negℤ, _+ℤ_, _*ℤ_}
@@ -14,12 +14,13 @@ use mir.Val.{SFits, ofZ, toZ}
 use Rattle.integers.specs.Parts.{up}
 use Rattle.integers.specs.Floor.{floorDiv, floorMod}
 use Rattle.integers.proofs.Linear.{ints, _∴_}
+use Rattle.integers.proofs.Order.{is-up, mul-mono}
 use Rattle.integers.proofs.Floor.{floor-eq, floor-lt}
 use Rattle.calendar.specs.Limits.{poolLimit}
 use Rattle.calendar.specs.Questions.{given}
 use Rattle.granules.specs.Valid.{Valid}
 use Rattle.granules.proofs.Sound.{sound-valid, sound-limits}
-use Rattle.cursors.specs.Found.{Sound}
+use Rattle.cursors.specs.Found.{Sound, Within}
 
 -- the period and the distance of a sound row are naturals, 1 ≤ N ≤ P ≤ poolLimit, and P is the row's length
 pub record Numbers (period distance : ℤ) (cells : List ℤ) : Type 0 where
@@ -29,10 +30,6 @@ pub record Numbers (period distance : ℤ) (cells : List ℤ) : Type 0 where
   pub low : 1 ≤ up distance
   pub middle : up distance ≤ up period
   pub high : up period ≤ poolLimit
-
-is-up : (z : ℤ) → 1 ≤ up z → z ≡ pos (up z)
-is-up (pos n) h = refl
-is-up (negsuc n) h = absurd (omega arith)
 
 module _ (period distance : ℤ) (cells : List ℤ) (s : Sound period distance cells) where
   pub valid : Valid (given period distance cells)
@@ -60,6 +57,15 @@ rise-of P N B m u (negsuc n) below small lo hi e = e ∴ lo ∴ hi ∴ mul-le-mu
 pub rise-bound : (P N B : ℕ) → 0 < P → N ≤ P → (u : ℤ) → negℤ (pos B) ≤ℤ u → u ≤ℤ pos B
     → (negℤ (pos (B + P)) ≤ℤ (pos N *ℤ floorDiv u P)) × ((pos N *ℤ floorDiv u P) ≤ℤ pos B)
 rise-bound P N B above small u lo hi = rise-of P N B (floorMod u P) u (floorDiv u P) (floor-lt P above u) small lo hi (floor-eq P above u)
+
+-- a product is within the product of the bounds
+pub product-within : (A B : ℕ) (h z : ℤ) → Within A h → Within B z → Within (A * B) (h *ℤ z)
+product-within A B (pos n) z k l =
+    let few : n ≤ A = k .1 ∴ simp ints (omega arith) in
+    mul-mono n (l .0) ∴ mul-mono n (l .1) ∴ mul-le-mul-right B few ∴ simp ints (omega arith)
+product-within A B (negsuc n) z k l =
+    let few : suc n ≤ A = k .0 ∴ simp ints (omega arith) in
+    mul-mono (suc n) (l .0) ∴ mul-mono (suc n) (l .1) ∴ mul-le-mul-right B few ∴ simp ints (omega arith)
 
 -- a number that the machine computed as x and reads back from its bits
 pub read-as : {w : Width} {x y : ℤ} → x ≡ y → SFits w y → toZ w (ofZ w x) ≡ y

@@ -36,7 +36,7 @@
 //     floats       Allowance, Figures                 questions    Placing, Up, Parted, Figured, Shortening, Late
 //     dates        Date, Dated, Instant               reader       Reader
 //     open_map     OpenNumber, OpenInstant            row_maps     Made
-//     sheet_text   Written
+//     open_steps   OpenStep                           sheet_text   Written
 // A value that is only handed on, as a refusal within an answer, needs none. `crates/caller` is such a program.
 
 // The most entries of a table, the most cells of a pool or a row, and the greatest lateness that may be asked about.
@@ -105,6 +105,10 @@ pub use sheet_text::sheet;
 //     least_period()       the least period, and how many divisors were tried for it
 //     may_be_late(z, d, a) whether slot z may be d instants late; refuses 14, 18, 15
 //     open_map(words)      the open map of the row, in lent words
+//     nth_open(x, n)       n open instants on from x, or back for an n below 0; for 0 it is x where x is open, or none;
+//                          refuses 14
+//     between(x, y)        how many open instants t there are with x < t <= y, and minus that for the pair the other
+//                          way round; refuses 14
 // Beyond the pass over each row up and down take time in proportion to the slots and their gaps.
 pub use reader::Reader;
 
@@ -150,12 +154,19 @@ pub use dates::instant_of;
 //     count_open(words, period, s, t)                 how many open instants there are from s up to but not including t
 //     next_open(words, period, x)                     the next open instant above x
 //     last_open(words, period, x)                     the last open instant below x
+//     nth_open(words, period, x, n)                   the n-th open instant after x, or before x for an n below 0; for 0
+//                                                     it is x, or Nothing where x is not open; n is within ±1,000,000
+//     between_open(words, period, x, y)               how many open instants t there are with x < t <= y, and minus that
+//                                                     for the pair the other way round
 // Making one passes over the row twice. A question passes over the words, not the cells: three times at the most.
 pub use open_map::OpenInstant;
 pub use open_map::OpenNumber;
 pub use open_map::count as count_open;
 pub use open_map::last as last_open;
 pub use open_map::next as next_open;
+pub use open_steps::OpenStep;
+pub use open_steps::between as between_open;
+pub use open_steps::nth as nth_open;
 pub use row_maps::Made;
 pub use row_maps::make as make_open_map;
 
@@ -163,3 +174,4 @@ pub use row_maps::make as make_open_map;
 mod c_api;
 mod c_civil;
 mod c_open;
+mod c_steps;

@@ -1,3 +1,5 @@
 -- Open maps in plain numbers.
---     Codes        what each function answers, and leaves
+--     Codes        what making a map answers
+--     StepCodes    what a step answers, and leaves
 pub mod Codes
+pub mod StepCodes

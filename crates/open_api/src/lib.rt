@@ -13,6 +13,8 @@ use open_map::OpenInstant;
 use open_map::OpenNumber;
 use row_maps::Made;
 
+pub mod steps;
+
 // The open map of a row, in `words`: 0; or a refusal, with zeros.
 pub fn map(cells: &[i32], period: i64, distance: i64, words: &mut [u64]) -> i64
     ensures code { λ r. ⌜ r ≡ mapCode (refusal (mapReply (given period distance (now (cells .entry))) (length (now (words .entry))))) ⌝ }

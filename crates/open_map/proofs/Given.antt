@@ -1,13 +1,14 @@
 -- What check 13 says of a map that is handed in.
 -- Assumes nothing.
-use mathlib.Core.Path.{_≡_, refl}
+use mathlib.Core.Path.{_≡_}
 use mathlib.Core.List.{List}
 use Prim.Native.Nat.{ℕ, _≤_}
 use native.Mathlib.Omega.{arith}
-use lib.IntN.{ℤ, pos, negsuc}
+use lib.IntN.{ℤ, pos}
 use lib.ListN.{length}
 use Rattle.integers.specs.Parts.{up}
 use Rattle.integers.proofs.Linear.{ints, _∴_}
+use Rattle.integers.proofs.Order.{is-up}
 use Rattle.calendar.specs.Limits.{poolLimit}
 use Rattle.granules.proofs.Tests.{and-iff, leb-iff}
 use Rattle.words.specs.Bits.{cell}
@@ -28,10 +29,6 @@ pub record Given (period : ℤ) (words : List ℕ) : Type 0 where
   pub behind : (i : ℕ) → up period ≤ i → cell words i ≡ 0
   pub some : 1 ≤ setBefore (mapGiven period words) (up period)
   pub most : setBefore (mapGiven period words) (up period) ≤ up period
-
-pub is-up : (z : ℤ) → 1 ≤ up z → z ≡ pos (up z)
-is-up (pos n) h = refl
-is-up (negsuc n) h = absurd (omega arith)
 
 pub given : (period : ℤ) (words : List ℕ) → Sound period words → Given period words
 unfolding mapSound

@@ -1,11 +1,10 @@
 -- Bounds of the numbers on the way, and numbers that the machine reads back from their bits.
 -- Assumes nothing.
 use mathlib.Core.Path.{_≡_, _∙_, ap}
-use Prim.Native.Nat.{ℕ, suc, _+_, _*_, _^_, _≤_, _<_}
-use native.Mathlib.Nat.{mul-le-mul-right}
+use Prim.Native.Nat.{ℕ, _+_, _^_, _≤_, _<_}
 use native.Mathlib.Omega.{arith}
 use lib.Dec.{T}
-use lib.IntN.{ℤ, pos, negsuc, natAbs, _+ℤ_, _*ℤ_}
+use lib.IntN.{ℤ, pos, natAbs, _+ℤ_, _*ℤ_}
 use lib.Signed.{_≤ℤ_, nonNeg}
 use mir.Facts.{toZ-ofZ}
 use mir.Syntax.{w64}
@@ -13,7 +12,7 @@ use mir.Val.{SFits, Fits, ofZ, toZ}
 use Rattle.integers.specs.Parts.{up}
 use Rattle.integers.specs.Floor.{floorDiv, floorMod}
 use Rattle.integers.proofs.Linear.{ints, _∴_}
-use Rattle.integers.proofs.Order.{mul-mono, pos-up}
+use Rattle.integers.proofs.Order.{pos-up}
 use Rattle.integers.proofs.Floor.{floor-eq, floor-lt}
 use Rattle.calendar.specs.Limits.{poolLimit}
 use Rattle.cursors.specs.Found.{Within}
@@ -21,15 +20,6 @@ use Rattle.cursors.proofs.Cells.{cast-nat}
 use Rattle.cursors.proofs.Numbers.{rise-bound}
 use Rattle.open_map.specs.declared.turns.Turned.{Turned}
 use Rattle.open_map.specs.Turns.{turnedAt}
-
--- a product is within the product of the bounds
-pub product-within : (A B : ℕ) (h z : ℤ) → Within A h → Within B z → Within (A * B) (h *ℤ z)
-product-within A B (pos n) z k l =
-    let few : n ≤ A = k .1 ∴ simp ints (omega arith) in
-    mul-mono n (l .0) ∴ mul-mono n (l .1) ∴ mul-le-mul-right B few ∴ simp ints (omega arith)
-product-within A B (negsuc n) z k l =
-    let few : suc n ≤ A = k .0 ∴ simp ints (omega arith) in
-    mul-mono (suc n) (l .0) ∴ mul-mono (suc n) (l .1) ∴ mul-le-mul-right B few ∴ simp ints (omega arith)
 
 -- a quotient is no farther from 0, but for the divisor
 pub quotient-within : (P B : ℕ) → 0 < P → (t : ℤ) → Within B t → Within (B + P) (floorDiv t P)

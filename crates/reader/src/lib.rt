@@ -1,6 +1,8 @@
 // Questions to a row, put through a reader that borrows it.
 
 use floats::Allowance;
+use open_map::OpenNumber;
+use open_steps::OpenStep;
 use questions::Figured;
 use questions::Late;
 use questions::Placing;
@@ -12,6 +14,9 @@ ghost use mathlib.Core.Path.{_≡_};
 ghost use lib.ListN.{length};
 ghost use Rattle.calendar.specs.Questions as Q;
 ghost use Rattle.calendar.specs.Questions.{given, upFromInstant, upFromGranule};
+ghost use Rattle.open_map.specs.Answers.{numberReply};
+ghost use Rattle.open_row.specs.Inquiries.{nthReply, betweenReply};
+ghost use Rattle.open_steps.specs.Answers.{stepReply};
 ghost use Rattle.questions.specs.Answers.{placedReply, upReply, partsReply, counted, partsAfter, FiguresOf, leastPeriod, shorteningReply, lateReply, mayBeLate};
 ghost use Rattle.row_maps.specs.Making.{made, mapReply, mapAfter, refusal};
 
@@ -55,6 +60,23 @@ impl<'a> Reader<'a> {
         ensures { λ r. ⌜ lateReply r ≡ mayBeLate (given (self .entry .period) (self .entry .distance) (now (self .entry .cells))) z d allowance ⌝ }
     {
         questions::may_be_late(z, d, allowance, self.cells, self.period, self.distance)
+    }
+
+    // So many steps on from x, or back for `steps` below 0, each to the next open instant; for 0 it is x where x is
+    // open, and else none. Refuses 13, then 14 for x outside ±1,000,000,000 or steps outside ±1,000,000. Costs four
+    // passes over the row at most.
+    pub fn nth_open(self, x: i64, steps: i64) -> OpenStep
+        ensures { λ r. ⌜ stepReply r ≡ nthReply (given (self .entry .period) (self .entry .distance) (now (self .entry .cells))) x steps ⌝ }
+    {
+        open_row::nth_open(x, steps, self.cells, self.period, self.distance)
+    }
+
+    // How many open instants t there are with x < t ≤ y, and minus that for the pair the other way round. Refuses 13,
+    // then 14 for x or y outside ±1,000,000,000. Costs four passes over the row at most.
+    pub fn between(self, x: i64, y: i64) -> OpenNumber
+        ensures { λ r. ⌜ numberReply r ≡ betweenReply (given (self .entry .period) (self .entry .distance) (now (self .entry .cells))) x y ⌝ }
+    {
+        open_row::between(x, y, self.cells, self.period, self.distance)
     }
 
     // The label of the slot of h that contains the whole slot z, or none. Refuses 13 for this row and for h, 14 for z

@@ -22,6 +22,26 @@ extern "C" {
         -> i64;
 }
 
+extern "C" {
+    fn jogipahn_nth_open(
+        words: *const u64,
+        n: usize,
+        period: i64,
+        x: i64,
+        steps: i64,
+        found: *mut i64,
+    ) -> i64;
+
+    fn jogipahn_between(
+        words: *const u64,
+        n: usize,
+        period: i64,
+        x: i64,
+        y: i64,
+        number: *mut i64,
+    ) -> i64;
+}
+
 /// What the core shouldn't leave standing.
 const DIRT: i64 = 0x5EED_5EED_5EED;
 
@@ -75,6 +95,29 @@ pub fn last_open(words: &[u64], period: i64, x: i64) -> Result<i64, u32> {
     // SAFETY: as above.
     let answer = unsafe { jogipahn_last_open(words.as_ptr(), words.len(), period, x, &mut found) };
     number_answer(answer, found)
+}
+
+pub fn nth_open(words: &[u64], period: i64, x: i64, steps: i64) -> Result<Option<i64>, u32> {
+    let mut found = DIRT;
+    // SAFETY: as above.
+    let answer =
+        unsafe { jogipahn_nth_open(words.as_ptr(), words.len(), period, x, steps, &mut found) };
+    if answer == 1 {
+        return Ok(Some(found));
+    }
+    assert_eq!(found, 0, "an instant beside the answer {answer}");
+    match answer {
+        0 => Ok(None),
+        _ => Err(refusal(answer)),
+    }
+}
+
+pub fn between(words: &[u64], period: i64, x: i64, y: i64) -> Result<i64, u32> {
+    let mut number = DIRT;
+    // SAFETY: as above, for the number.
+    let answer =
+        unsafe { jogipahn_between(words.as_ptr(), words.len(), period, x, y, &mut number) };
+    number_answer(answer, number)
 }
 
 /// A number stands beside the answer 0, and 0 beside a refusal.

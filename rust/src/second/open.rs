@@ -10,6 +10,9 @@ use super::{CELL_LIMIT, EMPTY};
 /// How many cells a word shows.
 pub const WORD: usize = 64;
 
+/// So many steps are the most, forward or backward.
+pub const STEP_LIMIT: i64 = 1_000_000;
+
 /// The open map of a row.
 pub fn open_map(row: Row) -> Result<Vec<u64>, u32> {
     let mut words = vec![0; words_for(row.cells.len())];
@@ -56,6 +59,29 @@ pub fn last_open(words: &[u64], period: i64, x: i64) -> Result<i64, u32> {
     let open = Open::shown(words, period)?;
     within_limit(x)?;
     Ok(open.last(x))
+}
+
+/// The instant so many steps after x, or before it where the number is below 0.
+pub fn nth_open(words: &[u64], period: i64, x: i64, steps: i64) -> Result<Option<i64>, u32> {
+    let open = Open::shown(words, period)?;
+    within_limit(x)?;
+    if !(-STEP_LIMIT..=STEP_LIMIT).contains(&steps) {
+        return Err(14);
+    }
+    Ok(open.nth(x, steps))
+}
+
+/// How many instants above x and up to y are open; minus that for the pair the
+/// other way round.
+pub fn between(words: &[u64], period: i64, x: i64, y: i64) -> Result<i64, u32> {
+    let open = Open::shown(words, period)?;
+    within_limit(x)?;
+    within_limit(y)?;
+    Ok(if x <= y {
+        open.count(x + 1, y + 1)
+    } else {
+        -open.count(y + 1, x + 1)
+    })
 }
 
 /// How many words show so many cells.
@@ -114,6 +140,21 @@ impl Open {
         // The turn that ends just below x has the cells of the one that begins there.
         let closed = self.turn_from(x).rev().take_while(|&&open| !open);
         x - 1 - closed.count() as i64
+    }
+
+    /// One step after the other.
+    pub fn nth_by_steps(&self, x: i64, steps: i64) -> Option<i64> {
+        match steps {
+            0 => self.is_open(x).then_some(x),
+            1.. => Some((0..steps).fold(x, |t, _| self.next(t))),
+            _ => Some((steps..0).fold(x, |t, _| self.last(t))),
+        }
+    }
+
+    /// Whole turns first, as long as a step is left: as many are open in each.
+    fn nth(&self, x: i64, steps: i64) -> Option<i64> {
+        let turns = (steps.abs() - 1).max(0) / self.per_turn() * steps.signum();
+        self.nth_by_steps(x + turns * self.period(), steps - turns * self.per_turn())
     }
 
     /// The cells of the instants from t on, a turn of them.

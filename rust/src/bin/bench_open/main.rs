@@ -1,6 +1,6 @@
-//! How long it takes to count and find open instants: the proved core over a
-//! map's words, hand-written Rust over the same words, and ordinary Rust over
-//! the row's cells.
+//! How long it takes to count open instants, to find them and to go so many
+//! steps: the proved core over a map's words, hand-written Rust over the same
+//! words, and ordinary Rust over the row's cells or by single steps.
 
 mod cells;
 mod words;
@@ -42,7 +42,7 @@ fn report(name: &str, sides: [&str; 3], rounds: &Rounds, questions: usize) {
     );
 }
 
-/// Times core, words and cells over the same questions.
+/// Times the core, words and a third way over the same questions.
 fn measure(name: &str, third: &str, ways: [Way; 3], asked: &Asked) {
     for &(a, b) in asked {
         let answers = [0, 1, 2].map(|way: usize| ways[way](a, b));
@@ -132,6 +132,35 @@ impl Subject {
         ]
     }
 
+    /// The third way takes one step after the other, over the words too.
+    fn steps(&self) -> [Way<'_>; 3] {
+        let (map, period) = (self.map(), self.period());
+        let reached = |answer: Result<Option<i64>, u32>| answer.unwrap().unwrap();
+        [
+            Box::new(move |x, n| reached(core::nth_open(&self.words, period, x, n))),
+            Box::new(move |x, n| reached(map.nth(x, n))),
+            Box::new(move |x, n| reached(map.nth_by_steps(x, n))),
+        ]
+    }
+
+    fn between(&self) -> [Way<'_>; 3] {
+        let (map, period) = (self.map(), self.period());
+        [
+            Box::new(move |x, y| core::between(&self.words, period, x, y).unwrap()),
+            Box::new(move |x, y| map.between(x, y).unwrap()),
+            Box::new(move |x, y| -cells::count(&self.cells, y + 1, x + 1)),
+        ]
+    }
+
+    /// So many steps or some more, forward and backward.
+    fn walks(&self, random: &mut Random, least: i64, most: i64, questions: usize) -> Asked {
+        let walk = |_| {
+            let x = random.range(-100 * self.period(), 100 * self.period());
+            (x, random.choose(&[-1, 1]) * random.range(least, most))
+        };
+        (0..questions).map(walk).collect()
+    }
+
     /// Stretches of so many instants inside a turn.
     fn inside(&self, random: &mut Random, least: i64, most: i64) -> Asked {
         let stretch = |_| {
@@ -154,10 +183,46 @@ impl Subject {
     }
 }
 
+fn count_and_find(subject: &Subject, random: &mut Random) {
+    let half = subject.period() / 2;
+    let near = subject.inside(random, 1, 100);
+    let part = subject.inside(random, half, half + half / 2);
+    let many = subject.over_many(random);
+    for (name, asked) in [
+        ("count, up to 100 instants", &near),
+        ("count, over half of a turn", &part),
+        ("count, over many turns", &many),
+    ] {
+        measure(name, "cells", subject.counting(), asked);
+    }
+    measure("next", "cells", subject.next(), &many);
+    measure("last", "cells", subject.last(), &many);
+}
+
+fn go_steps(subject: &Subject, random: &mut Random) {
+    for (name, least, most, questions) in [
+        ("n-th, n up to 20", 1, 20, QUESTIONS),
+        ("n-th, n about 1,000", 900, 1_100, QUESTIONS),
+        ("n-th, n about 100,000", 90_000, 110_000, 4),
+    ] {
+        let walks = subject.walks(random, least, most, questions);
+        measure(name, "steps", subject.steps(), &walks);
+    }
+    let many = subject.over_many(random);
+    let down = many.iter().map(|&(s, t)| (t - 1, s)).collect();
+    measure(
+        "between, down over many turns",
+        "cells",
+        subject.between(),
+        &down,
+    );
+}
+
 fn main() {
     keep_memory();
     println!("Best times of a question in many rounds taken in turns, and medians of the ratios in each.");
     println!("words: hand-written Rust over the map's words and their ones. cells: ordinary Rust over the row, cell by cell.");
+    println!("steps: n single steps over the words.");
     for length in [4096, 1 << 17, 1 << 20] {
         let mut random = Random::new(length as u64);
         for (shape, subject) in [
@@ -168,19 +233,8 @@ fn main() {
             ),
         ] {
             println!("\n{length} cells, {shape}");
-            let half = subject.period() / 2;
-            let near = subject.inside(&mut random, 1, 100);
-            let part = subject.inside(&mut random, half, half + half / 2);
-            let many = subject.over_many(&mut random);
-            for (name, asked) in [
-                ("count, up to 100 instants", &near),
-                ("count, over half of a turn", &part),
-                ("count, over many turns", &many),
-            ] {
-                measure(name, "cells", subject.counting(), asked);
-            }
-            measure("next", "cells", subject.next(), &many);
-            measure("last", "cells", subject.last(), &many);
+            count_and_find(&subject, &mut random);
+            go_steps(&subject, &mut random);
         }
     }
 }

@@ -9,7 +9,7 @@ use mir.Val.{SFits}
 use Rattle.integers.proofs.Linear.{ints, _∴_}
 use Rattle.integers.proofs.Machine.{plain}
 use Rattle.cursors.specs.Found.{Within}
-use Rattle.open_map.proofs.Numbers.{product-within}
+use Rattle.cursors.proofs.Numbers.{product-within}
 use Rattle.open_map.proofs.turns.composed.Statement.{statement}
 use Rattle.open_map.proofs.turns.composed.Tie as tie
 

@@ -20,7 +20,8 @@ use Rattle.bitmaps.proofs.Words.{cell-le}
 use Rattle.open_map.specs.Maps.{mapGiven}
 use Rattle.open_map.specs.Turns.{setBefore, rank}
 use Rattle.open_map.proofs.Given.{Given, given, turning, within}
-use Rattle.open_map.proofs.Numbers.{product-within, Placed, placed}
+use Rattle.cursors.proofs.Numbers.{product-within}
+use Rattle.open_map.proofs.Numbers.{Placed, placed}
 use Rattle.open_map.proofs.turns.rank_of.Statement.{statement}
 use Rattle.open_map.proofs.turns.rank_of.Tie as tie
 
