@@ -1,18 +1,20 @@
 -- Words that n cells fill.
 -- Assumes nothing.
-use mathlib.Core.Path.{_≡_, refl, _∙_, ap}
-use mathlib.Core.Bool.{true, false, not, and-eq-true-iff}
+use mathlib.Core.Path.{_≡_, refl, sym, _∙_, ap}
+use mathlib.Core.Bool.{Bool, true, false, not, and-eq-true-iff}
 use mathlib.Core.List.{List}
 use Prim.Native.Nat.{ℕ, _+_, _*_, _/_, _%_, _^_, _≤_, _<_}
 use native.Mathlib.Omega.{arith}
 use native.Mathlib.Decide.{decLt}
 use borrow.Author.Tests.{eqb-true, eqb-false, not-true, eq-eqb, ne-eqb}
+use lib.Count.{trailingZeros}
 use lib.Dec.{eqb}
 use lib.ListN.{length, getD}
 use Rattle.words.specs.Bits.{cell, tally}
 use Rattle.words.proofs.Tally.{tally-none, tally-mono, tally-one}
-use Rattle.bitmaps.specs.Cells.{wordsFor, fitting}
-use Rattle.bitmaps.proofs.Words.{clear-join}
+use Rattle.words.proofs.Zeros.{trailing}
+use Rattle.bitmaps.specs.Cells.{AnySet, wordsFor, fitting}
+use Rattle.bitmaps.proofs.Words.{cell-at, clear-words, clear-join}
 use Rattle.bitmaps.proofs.Search.{rest-clear, clear-past}
 
 module _ (n : ℕ) (words : List ℕ) where
@@ -56,3 +58,17 @@ module _ (n : ℕ) (words : List ℕ) where
   none-set f h =
       let z = eq-eqb (tally (cell words) n) 0 (tally-none (cell words) n (λ i l. h i (omega arith))) in
       filled (f .whole) (f .behind) ∙ ap not z
+
+  -- by the words
+  pub by-words : Filled → ((i : ℕ) → getD words i 0 < 2 ^ 64) → (r : Bool) → AnySet words r → r ≡ fitting n words
+  by-words f b true s =
+      let l = trailing 64 (getD words (s .0) 0) (s .3) (b (s .0)) in
+      sym (some-set f (64 * s .0 + trailingZeros 64 (getD words (s .0) 0)) (cell-at words (s .0) _ (l .0) ∙ l .1 .set))
+  by-words f b false s = sym (none-set f (λ i l. clear-all i))
+    where
+      clear-all : (i : ℕ) → cell words i ≡ 0
+      clear-all i = by (decLt i (64 * length words))
+        where
+          by : Dec (i < 64 * length words) → cell words i ≡ 0
+          by (yes l) = clear-words words 0 (length words) s i (omega arith) l
+          by (no l) = clear-past words (length words) i (omega arith) (omega arith)

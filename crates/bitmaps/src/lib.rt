@@ -4,7 +4,11 @@ ghost use mathlib.Core.Path.{_≡_};
 ghost use Prim.Native.Nat.{_+_, _*_, _^_, _≤_, _<_};
 ghost use lib.ListN.{length, getD};
 ghost use Rattle.words.specs.Bits.{cell, tally};
-ghost use Rattle.bitmaps.specs.Cells.{Few, Within, FirstWord, LastWord, FirstFrom, LastBelow, fitting};
+ghost use Rattle.words.specs.Places.{Clear};
+ghost use Rattle.bitmaps.specs.Cells.{BitsIn, AnySet, Few, Within, FirstWord, LastWord, FirstFrom, LastBelow, fitting};
+
+// So many words are tested together whether all are zero.
+const BLOCK: usize = 16;
 
 // A cell, where there is one.
 pub enum Place {
@@ -19,19 +23,30 @@ pub fn word_at(words: &[u64], i: usize) -> u64
     if i < words.len() { words[i] } else { 0 }
 }
 
-// How many cells of the first n words are set.
-fn ones_in(words: &[u64], n: usize) -> usize
-    requires { ⌜ Few (now words) × (n ≤ length (now words)) ⌝ }
-    ensures { λ r. ⌜ r ≡ tally (cell (now (words .entry))) (64 * n) ⌝ }
-    ensures { λ r. ⌜ r ≤ 64 * n ⌝ }
+// How many cells of the words from i up to j are set.
+fn ones_in(words: &[u64], i: usize, j: usize) -> usize
+    requires { ⌜ Few (now words) × (i ≤ j) × (j ≤ length (now words)) ⌝ }
+    ensures { λ r. ⌜ tally (cell (now (words .entry))) (64 * i) + r ≡ tally (cell (now (words .entry))) (64 * j) ⌝ }
 {
     let mut count: usize = 0;
-    let mut i = 0;
-    while i < n {
-        count += words::ones_of(words[i]);
-        i += 1;
+    let mut m = i;
+    while m < j {
+        count += words::ones_of(words[m]);
+        m += 1;
     }
     count
+}
+
+// How many cells from a up to c are set: those of the words from that of a on, and of the word of c below it, but for those below a.
+pub fn ones_between(words: &[u64], a: usize, c: usize) -> usize
+    requires { ⌜ Within (now words) c × (a ≤ c) ⌝ }
+    ensures { λ r. ⌜ tally (cell (now (words .entry))) a + r ≡ tally (cell (now (words .entry))) c ⌝ }
+{
+    let i = a / 64;
+    let j = c / 64;
+    let v = word_at(words, i);
+    let w = word_at(words, j);
+    ones_in(words, i, j) + words::ones_below(w, c % 64) - words::ones_below(v, a % 64)
 }
 
 // How many cells before c are set.
@@ -39,9 +54,44 @@ pub fn ones_before(words: &[u64], c: usize) -> usize
     requires { ⌜ Within (now words) c ⌝ }
     ensures { λ r. ⌜ r ≡ tally (cell (now (words .entry))) c ⌝ }
 {
-    let whole = c / 64;
-    let w = word_at(words, whole);
-    ones_in(words, whole) + words::ones_below(w, c % 64)
+    ones_between(words, 0, c)
+}
+
+// How many of the n cells before a and from c on are set.
+pub fn ones_outside(words: &[u64], a: usize, c: usize, n: usize) -> usize
+    requires { ⌜ Within (now words) n × (a ≤ c) × (c ≤ n) ⌝ }
+    ensures { λ r. ⌜ tally (cell (now (words .entry))) c + r ≡ tally (cell (now (words .entry))) a + tally (cell (now (words .entry))) n ⌝ }
+{
+    ones_before(words, a) + ones_between(words, c, n)
+}
+
+// The bits that any of the words from i up to j has: none, where all are zero.
+fn bits_in(words: &[u64], i: usize, j: usize) -> u64
+    requires { ⌜ (i ≤ j) × (j ≤ length (now words)) ⌝ }
+    ensures { λ r. ⌜ BitsIn (now (words .entry)) i j r ⌝ }
+{
+    let mut bits: u64 = 0;
+    let mut m = i;
+    while m < j {
+        bits |= words[m];
+        m += 1;
+    }
+    bits
+}
+
+// Where the blocks of zero words end that begin at the word i.
+fn zeros_from(words: &[u64], i: usize) -> usize
+    requires { ⌜ i ≤ length (now words) ⌝ }
+    ensures { λ r. ⌜ (i ≤ r) × (r ≤ length (now (words .entry))) × Clear (λ m. getD (now (words .entry)) m 0) i r ⌝ }
+{
+    let mut j = i;
+    while BLOCK <= words.len() - j {
+        if bits_in(words, j, j + BLOCK) != 0 {
+            return j;
+        }
+        j += BLOCK;
+    }
+    j
 }
 
 // The first word from i on that is not zero, or past the last.
@@ -49,7 +99,7 @@ fn nonzero_from(words: &[u64], i: usize) -> usize
     requires { ⌜ i ≤ length (now words) ⌝ }
     ensures { λ r. ⌜ FirstWord (now (words .entry)) i r ⌝ }
 {
-    let mut j = i;
+    let mut j = zeros_from(words, i);
     while j < words.len() {
         if words[j] != 0 {
             return j;
@@ -80,12 +130,27 @@ pub fn first_from(words: &[u64], c: usize) -> Place
     Place::At(64 * j + words::lowest(w))
 }
 
+// Where the blocks of zero words begin that end before the word i.
+fn zeros_below(words: &[u64], i: usize) -> usize
+    requires { ⌜ i ≤ length (now words) ⌝ }
+    ensures { λ r. ⌜ (r ≤ i) × Clear (λ m. getD (now (words .entry)) m 0) r i ⌝ }
+{
+    let mut end = i;
+    while BLOCK <= end {
+        if bits_in(words, end - BLOCK, end) != 0 {
+            return end;
+        }
+        end -= BLOCK;
+    }
+    end
+}
+
 // The words from n up to i are zero, and the one before n is not: 0 where there is none.
 fn nonzero_below(words: &[u64], i: usize) -> usize
     requires { ⌜ i ≤ length (now words) ⌝ }
     ensures { λ r. ⌜ LastWord (now (words .entry)) i r ⌝ }
 {
-    let mut end = i;
+    let mut end = zeros_below(words, i);
     while 0 < end {
         if words[end - 1] != 0 {
             return end;
@@ -114,6 +179,23 @@ pub fn last_below(words: &[u64], c: usize) -> Place
     Place::At(64 * (n - 1) + words::highest(v))
 }
 
+// A word is not zero.
+fn any_set(words: &[u64]) -> bool
+    ensures { λ r. ⌜ AnySet (now (words .entry)) r ⌝ }
+{
+    let mut j = 0;
+    while BLOCK <= words.len() - j {
+        if bits_in(words, j, j + BLOCK) != 0 {
+            return true;
+        }
+        j += BLOCK;
+    }
+    if bits_in(words, j, words.len()) != 0 {
+        return true;
+    }
+    false
+}
+
 // n cells fill the words but for the bits behind them, which are 0, and at least one is set.
 pub fn fits(words: &[u64], n: usize) -> bool
     requires { ⌜ n < 2 ^ 32 ⌝ }
@@ -126,9 +208,5 @@ pub fn fits(words: &[u64], n: usize) -> bool
     if behind != 0 {
         return false;
     }
-    let place = first_from(words, 0);
-    match place {
-        Place::At(_) => true,
-        Place::Nowhere => false,
-    }
+    any_set(words)
 }

@@ -3,7 +3,7 @@ use mathlib.Core.Path.{_≡_}
 use mathlib.Core.Bool.{true}
 use mathlib.Core.List.{List}
 use Prim.Native.Nat.{ℕ}
-use lib.IntN.{ℤ, pos, _+ℤ_, _*ℤ_}
+use lib.IntN.{ℤ, pos, _+ℤ_, _-ℤ_, _*ℤ_}
 use lib.Signed.{_≤ℤ_}
 use Rattle.integers.specs.Floor.{floorDiv, floorMod}
 use Rattle.words.specs.Bits.{cell, tally}
@@ -20,6 +20,11 @@ setBefore m c = tally (cell (m .words)) c
 unfoldable pub rank : Map → ℤ → ℤ
 unfolding floorDiv floorMod cell tally
 rank m t = pos (setBefore m (m .period)) *ℤ floorDiv t (m .period) +ℤ pos (setBefore m (floorMod t (m .period)))
+
+-- how far the rank rises over so many turns, from the cell a to the cell c
+unfoldable pub risenOver : Map → ℤ → ℕ → ℕ → ℤ
+unfolding cell tally
+risenOver m turns a c = (pos (setBefore m (m .period)) *ℤ turns +ℤ pos (setBefore m c)) -ℤ pos (setBefore m a)
 
 -- a map that passed check 13
 abbrev pub Sound : ℤ → List ℕ → Type 0

@@ -62,8 +62,8 @@ fn count_of(words: &[u64], period: i64, s: i64, t: i64) -> i64
     turns::risen(words, period, s, t)
 }
 
-// How many open instants there are from s up to but not including t. Refuses 13, then 14. Costs four divisions, and
-// three passes over the words at the most, beside one over the zero words in front.
+// How many open instants there are from s up to but not including t. Refuses 13, then 14. Costs the turns of s and t,
+// and one pass over the words at the most (over those of s to t inside a turn), beside one over the zero words in front.
 pub fn count(words: &[u64], period: i64, s: i64, t: i64) -> OpenNumber
     ensures { λ r. ⌜ numberReply r ≡ I.countReply (mapGiven period (now (words .entry))) s t ⌝ }
 {

@@ -7,7 +7,7 @@ ghost use Rattle.integers.specs.Parts.{up};
 ghost use Rattle.cursors.specs.Found.{Within};
 ghost use Rattle.words.specs.Bits.{cell};
 ghost use Rattle.open_map.specs.Maps.{mapGiven};
-ghost use Rattle.open_map.specs.Turns.{Sound, Turning, turnedAt, setBefore, rank};
+ghost use Rattle.open_map.specs.Turns.{Sound, Turning, turnedAt, setBefore, rank, risenOver};
 
 // An instant: which turn of the row it is in, and its cell.
 pub struct Turned {
@@ -45,18 +45,34 @@ pub fn set_cells(words: &[u64], period: i64) -> i64
     bitmaps::ones_before(words, period as usize) as i64
 }
 
-// The rank of the instant t.
-fn rank_of(words: &[u64], period: i64, total: i64, t: i64) -> i64
+// How far the rank rises over so many turns, from the cell a to the cell c, which is not before it. The cells outside
+// are counted only where whole turns are passed.
+fn risen_on(words: &[u64], period: i64, turns: i64, a: usize, c: usize) -> i64
     requires { ⌜ Sound period (now words) ⌝ }
-    requires { ⌜ total ≡ pos (setBefore (mapGiven period (now words)) (up period)) ⌝ }
-    requires { ⌜ Within (2 ^ 32) t ⌝ }
-    ensures { λ r. ⌜ r ≡ rank (mapGiven period (now (words .entry))) t ⌝ }
-    ensures { λ r. ⌜ Within (2 ^ 60) r ⌝ }
+    requires { ⌜ Within (2 ^ 34) turns × (a ≤ c) × (c ≤ up period) ⌝ }
+    ensures { λ r. ⌜ r ≡ risenOver (mapGiven period (now (words .entry))) turns a c ⌝ }
 {
-    let at = turn_of(period, t);
-    let cell = at.cell;
-    let before = bitmaps::ones_before(words, cell);
-    composed(total, at.turn, before)
+    let middle = bitmaps::ones_between(words, a, c);
+    if turns == 0 {
+        return middle as i64;
+    }
+    let total = bitmaps::ones_outside(words, a, c, period as usize) + middle;
+    composed(total as i64, turns, middle)
+}
+
+// The same where c is before a: one turn less, and the cells outside. Those between are counted only where whole turns
+// are passed.
+fn risen_round(words: &[u64], period: i64, turns: i64, a: usize, c: usize) -> i64
+    requires { ⌜ Sound period (now words) ⌝ }
+    requires { ⌜ Within (2 ^ 34) turns × (c ≤ a) × (a ≤ up period) ⌝ }
+    ensures { λ r. ⌜ r ≡ risenOver (mapGiven period (now (words .entry))) turns a c ⌝ }
+{
+    let outside = bitmaps::ones_outside(words, c, a, period as usize);
+    if turns == 1 {
+        return outside as i64;
+    }
+    let total = outside + bitmaps::ones_between(words, c, a);
+    composed(total as i64, turns - 1, outside)
 }
 
 // How far the rank rises from s to t.
@@ -65,8 +81,14 @@ pub fn risen(words: &[u64], period: i64, s: i64, t: i64) -> i64
     requires { ⌜ Within (2 ^ 32) s × Within (2 ^ 32) t ⌝ }
     ensures { λ r. ⌜ r ≡ rank (mapGiven period (now (words .entry))) t -ℤ rank (mapGiven period (now (words .entry))) s ⌝ }
 {
-    let total = set_cells(words, period);
-    let end = rank_of(words, period, total, t);
-    let start = rank_of(words, period, total, s);
-    end - start
+    let from = turn_of(period, s);
+    let to = turn_of(period, t);
+    let turns = to.turn - from.turn;
+    let a = from.cell;
+    let c = to.cell;
+    if a <= c {
+        risen_on(words, period, turns, a, c)
+    } else {
+        risen_round(words, period, turns, a, c)
+    }
 }
