@@ -13,7 +13,8 @@ use lib.ListN.{length, getD}
 use Rattle.words.specs.Bits.{cell, tally}
 use Rattle.words.proofs.Tally.{tally-none, tally-mono, tally-one}
 use Rattle.words.proofs.Zeros.{trailing}
-use Rattle.bitmaps.specs.Cells.{AnySet, wordsFor, fitting}
+use Rattle.bitmaps.specs.Cells.{wordsFor, fitting}
+use Rattle.bitmaps.specs.Zeros.{AnySet}
 use Rattle.bitmaps.proofs.Words.{cell-at, clear-words, clear-join}
 use Rattle.bitmaps.proofs.Search.{rest-clear, clear-past}
 

@@ -5,7 +5,8 @@ ghost use Prim.Native.Nat.{_+_, _*_, _^_, _≤_, _<_};
 ghost use lib.ListN.{length, getD};
 ghost use Rattle.words.specs.Bits.{cell, tally};
 ghost use Rattle.words.specs.Places.{Clear};
-ghost use Rattle.bitmaps.specs.Cells.{BitsIn, AnySet, Few, Within, FirstWord, LastWord, FirstFrom, LastBelow, fitting};
+ghost use Rattle.bitmaps.specs.Zeros.{BitsIn, AnySet};
+ghost use Rattle.bitmaps.specs.Cells.{Few, Within, FirstWord, LastWord, FirstFrom, LastBelow, fitting};
 
 // So many words are tested together whether all are zero.
 const BLOCK: usize = 16;
@@ -183,6 +184,9 @@ pub fn last_below(words: &[u64], c: usize) -> Place
 fn any_set(words: &[u64]) -> bool
     ensures { λ r. ⌜ AnySet (now (words .entry)) r ⌝ }
 {
+    if word_at(words, 0) != 0 {
+        return true;
+    }
     let mut j = 0;
     while BLOCK <= words.len() - j {
         if bits_in(words, j, j + BLOCK) != 0 {

@@ -73,6 +73,7 @@ pub fn open_map_into(row: Row, words: &mut [u64]) -> Result<(), u32> {
     }
 }
 
+#[inline]
 pub fn count_open(words: &[u64], period: i64, s: i64, t: i64) -> Result<i64, u32> {
     // SAFETY: the words are borrowed.
     let answer = unsafe { jogipahn_count_open(words.as_ptr(), words.len(), period, s, t) };
@@ -82,6 +83,7 @@ pub fn count_open(words: &[u64], period: i64, s: i64, t: i64) -> Result<i64, u32
     }
 }
 
+#[inline]
 pub fn next_open(words: &[u64], period: i64, x: i64) -> Result<i64, u32> {
     let mut found = DIRT;
     // SAFETY: the words are borrowed, and the instant is written to a number of
@@ -90,6 +92,7 @@ pub fn next_open(words: &[u64], period: i64, x: i64) -> Result<i64, u32> {
     number_answer(answer, found)
 }
 
+#[inline]
 pub fn last_open(words: &[u64], period: i64, x: i64) -> Result<i64, u32> {
     let mut found = DIRT;
     // SAFETY: as above.
@@ -97,6 +100,7 @@ pub fn last_open(words: &[u64], period: i64, x: i64) -> Result<i64, u32> {
     number_answer(answer, found)
 }
 
+#[inline]
 pub fn nth_open(words: &[u64], period: i64, x: i64, steps: i64) -> Result<Option<i64>, u32> {
     let mut found = DIRT;
     // SAFETY: as above.
@@ -112,6 +116,7 @@ pub fn nth_open(words: &[u64], period: i64, x: i64, steps: i64) -> Result<Option
     }
 }
 
+#[inline]
 pub fn between(words: &[u64], period: i64, x: i64, y: i64) -> Result<i64, u32> {
     let mut number = DIRT;
     // SAFETY: as above, for the number.
@@ -121,6 +126,7 @@ pub fn between(words: &[u64], period: i64, x: i64, y: i64) -> Result<i64, u32> {
 }
 
 /// A number stands beside the answer 0, and 0 beside a refusal.
+#[inline]
 fn number_answer(answer: i64, number: i64) -> Result<i64, u32> {
     if answer == 0 {
         return Ok(number);
@@ -129,6 +135,7 @@ fn number_answer(answer: i64, number: i64) -> Result<i64, u32> {
     Err(refusal(answer))
 }
 
+#[inline]
 fn refusal(answer: i64) -> u32 {
     match answer {
         -14 | -13 => -answer as u32,

@@ -1,6 +1,6 @@
 -- `bitmaps::bits_in` meets its contract. The loop's invariant: where no bit is found, the words from i up to m are zero.
 -- Assumes nothing.
-use Rattle.bitmaps.specs.Cells.{BitsIn, SomeWord}
+use Rattle.bitmaps.specs.Zeros.{BitsIn, SomeWord}
 use Rattle.bitmaps.proofs.Words.{clear-more}
 use borrow.Author.Needs.{needs}
 use Prim.Native.Nat.{ℕ, _+_, _-_, _≤_, _<_}
