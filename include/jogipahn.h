@@ -30,6 +30,81 @@
 #include <stddef.h>
 #include <stdint.h>
 
+/* This header's version, by semantic versioning. */
+#define JOGIPAHN_VERSION "1.0.0"
+#define JOGIPAHN_VERSION_MAJOR 1
+#define JOGIPAHN_VERSION_MINOR 0
+#define JOGIPAHN_VERSION_PATCH 0
+
+/* The cell of an instant that has no label. */
+#define JOGIPAHN_EMPTY INT32_MIN
+
+/* Limits. */
+#define JOGIPAHN_ENTRY_NUMBERS 6             /* numbers of an entry: kind, first, second, x, y, z */
+#define JOGIPAHN_ENTRIES_MAX 64              /* entries of a table */
+#define JOGIPAHN_HEADING_NUMBERS 4           /* numbers of a heading: start, period, distance, slots per period */
+#define JOGIPAHN_CELLS_MAX 4194304           /* cells of a pool, and the longest period */
+#define JOGIPAHN_LABEL_MAX 1000000000        /* labels and instants that are handed in lie from minus this to this */
+#define JOGIPAHN_LATE_MAX 1048576            /* the greatest lateness that may be asked for */
+#define JOGIPAHN_STEPS_MAX 1000000           /* the most steps, either way */
+#define JOGIPAHN_TEXT_MAX 4096               /* bytes of a table that is typed in */
+#define JOGIPAHN_SHEET_MAX 49792             /* bytes that are enough for any sheet */
+#define JOGIPAHN_CIVIL_NUMBERS 66            /* numbers of the civil table */
+#define JOGIPAHN_CIVIL_CELLS 332046          /* cells that its rows take */
+
+/* The kinds. An entry's first and second name earlier entries, a and b; numbers that its kind does not name are 0.
+ *
+ *     kind                 operands    numbers, and what the result is
+ *     bottom               none        each instant is its own label
+ *     group                a full      x 1 to 1,000,000: label j becomes ceil(j / x)
+ *     shift                a           x within +-1,000,000,000: label j becomes j + x
+ *     alter                a, b full   x 1 to 1,000,000, y 1 to x, z within +-1,000,000: of each x slots of b the y-th gets
+ *                                      z slots of a more, or fewer
+ *     combine              a, b        slot i is the union of b's slots inside a's slot i
+ *     anchor               a full, b   an instant labelled j in a gets b's greatest label not above j
+ *     select-down          a, b        x within +-1,000,000 and not 0, y 1 to 1,000,000: of a's slots inside each slot of
+ *                                      b, y from the x-th on, counted from the end where x is below 0
+ *     select-up            a, b        those slots of a that hold a whole slot of b
+ *     select-by-meeting    a, b        x, y as select-down, of a's slots that share an instant with each slot of b
+ *     union, intersection, difference: a, b, by labels
+ *     renumber             a           x within +-1,000,000,000: the least label from x on becomes 1, its neighbours
+ *                                      follow one by one both ways */
+#define JOGIPAHN_BOTTOM 0
+#define JOGIPAHN_GROUP 1
+#define JOGIPAHN_SHIFT 2
+#define JOGIPAHN_ALTER 3
+#define JOGIPAHN_COMBINE 4
+#define JOGIPAHN_ANCHOR 5
+#define JOGIPAHN_SELECT_DOWN 6
+#define JOGIPAHN_SELECT_UP 7
+#define JOGIPAHN_SELECT_BY_MEETING 8
+#define JOGIPAHN_UNION 9
+#define JOGIPAHN_INTERSECTION 10
+#define JOGIPAHN_DIFFERENCE 11
+#define JOGIPAHN_RENUMBER 12
+
+/* The refusals, by number. */
+#define JOGIPAHN_TABLE_LENGTH 1              /* the table's length is not 6 times 1 to 64 */
+#define JOGIPAHN_TOO_FEW_HEADINGS 2          /* fewer headings than entries */
+#define JOGIPAHN_POOL_TOO_LONG 3             /* a pool above 4,194,304 cells */
+#define JOGIPAHN_UNKNOWN_KIND 4              /* a kind that is not 0 to 12 */
+#define JOGIPAHN_OPERAND_NOT_EARLIER 5       /* an operand that is no earlier entry */
+#define JOGIPAHN_NUMBER_OUTSIDE_LIMITS 6     /* x, y or z outside its limits, or an unnamed number that is not 0 */
+#define JOGIPAHN_OPERAND_NOT_FULL 7          /* an operand that must be full is not */
+#define JOGIPAHN_TOO_LONG 8                  /* span or working period above the room */
+#define JOGIPAHN_NOT_ALIGNED 9               /* operands that are not aligned */
+#define JOGIPAHN_SLOT_EMPTIED 10             /* alter would leave a slot with fewer than one fine slot */
+#define JOGIPAHN_LABEL_OUTSIDE_LIMITS 11     /* a label of the working row outside the limits */
+#define JOGIPAHN_NOTHING_LABELLED 12         /* no instant has a label */
+#define JOGIPAHN_ROW_NOT_SOUND 13            /* a row or an open map that is handed in is none */
+#define JOGIPAHN_ARGUMENT_OUTSIDE_LIMITS 14  /* an instant, a label, a lateness or a number of steps outside the limits */
+#define JOGIPAHN_NOT_A_LABEL 15              /* z is not a label of its row */
+#define JOGIPAHN_PARTS_INCOMPLETE 16         /* the slots do not make up the whole slot */
+#define JOGIPAHN_LIST_TOO_SHORT 17           /* more parts than the list holds */
+#define JOGIPAHN_ALLOWANCE_NOT_ALLOWED 18    /* an allowance that is not allowed */
+#define JOGIPAHN_TEXT_NOT_ALLOWED 19         /* text that breaks the rules */
+#define JOGIPAHN_NO_SUCH_DATE 20             /* a date that does not exist */
+
 #ifdef __cplusplus
 extern "C" {
 #endif
