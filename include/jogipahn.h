@@ -1,5 +1,5 @@
-/* The conversion of a table of calendars to rows, questions to a row or to its open map, and dates. `rt staticlib jogipahn` writes the archive that
- * has the functions, target/staticlib/libjogipahn.a (link with -lm).
+/* The conversion of a table of calendars to rows, questions to a row or to its open map, dates, and a journal of tables.
+ * `rt staticlib jogipahn` writes the archive that has the functions, target/staticlib/libjogipahn.a (link with -lm).
  *
  * A row is the labels of the instants 0 to period - 1, and INT32_MIN for an instant that has none; the instants with one
  * label are a slot. The instant t has the label in cell (t mod period) plus distance * floor(t / period). A question is handed a row as its cells, with their number, its period and its
@@ -16,7 +16,8 @@
  *     -17   the list is too short for the parts
  *     -18   a rule that is neither 0 nor 1, a fixed allowance that is negative, infinite or no number, or a share that is not
  *           1/256 to 1 in steps of 1/256
- *      19   text that is typed in breaks its rules: jogipahn_sheet prints it, no question answers it
+ *      19   text that is typed in breaks its rules: jogipahn_sheet prints it, jogipahn_journal_record answers it with its line,
+ *           no question answers it
  *     -20   a date does not exist
  *
  * Of several, the answer is the first of 13 (each row in the order of the arguments), 14, 18, 15, 16, 17; 20 comes before 14. Any numbers
@@ -127,6 +128,23 @@ int64_t jogipahn_convert(const int32_t *table, size_t n, uint32_t *headings, siz
  * 4,096 bytes or has a number outside 32 bits, with the first bad line from 0 (0 for the length, which is judged first); then come
  * those of jogipahn_convert, with a pool of 4,096 cells and headings enough. Any bytes may be passed. */
 int64_t jogipahn_sheet(const uint8_t *text, size_t n, uint8_t *out, size_t m);
+
+/* A journal keeps tables in a file, one appended after another. A record is a table's text, all of its bytes below 128, and a
+ * trailer of six bytes that points back: 255, the text's length in four bytes of seven bits each, lowest first, and 254. An append
+ * puts a record behind all that stands in the file. If it is cut after any of its bytes, the former table is the last one, or the new
+ * one if none of them is missing; a torn end stays where it is, and the next append goes behind it. The program `journal_file` keeps
+ * such a file. */
+
+/* The last table of a journal, in the n bytes of its file: the length of its text, which starts at book[*start]; 0, and 0 in *start,
+ * for a journal with no table. It is what stands before the last complete trailer (its four length bytes below 128) whose length is 1
+ * to 4,096 and no more than the bytes before it. Any bytes may be passed; whoever else wrote to the file, the text lies within it. */
+int64_t jogipahn_journal_last(const uint8_t *book, size_t n, size_t *start);
+
+/* What appending a text writes, in out: how many bytes, 4,102 at the most; the rest of out is 0. All of out is 0 otherwise: -1 where it
+ * is too short; -(1900 + line) for a text that is refused with 19, with the first bad line as jogipahn_sheet has it, and 0 for a text of
+ * no bytes or above 4,096. Whether the table can be converted is not asked. To survive a cut it is to be written by one call, behind
+ * the file's end. */
+int64_t jogipahn_journal_record(const uint8_t *text, size_t n, uint8_t *out, size_t m);
 
 /* The civil calendar as a table over days: 66 with the table's 66 numbers in the list and 0 behind them; -1, and all of the list 0, where
  * the list is shorter. Instant 1 is 1 January 2001. Entry 9 is months, of which 1 is January 2001: period 146,097, distance 4,800. Entry 10

@@ -8,6 +8,8 @@
 pub use conversion::convert;
 #[cfg(feature = "dates")]
 pub use dates::{civil_table, civil_table_into, date, instant};
+#[cfg(feature = "journal")]
+pub use journal::{journal_last, journal_record_into};
 #[cfg(feature = "open")]
 pub use open::{between, count_open, last_open, next_open, nth_open, open_map, open_map_into};
 #[cfg(feature = "questions")]
@@ -17,6 +19,8 @@ pub use questions::{
 #[cfg(feature = "sheet")]
 pub use sheet::{sheet, sheet_into};
 
+#[cfg(feature = "journal")]
+mod journal;
 #[cfg(feature = "open")]
 mod open;
 

@@ -18,11 +18,15 @@
 //! cargo test --release --features sheet      --test sheet      -- --nocapture
 //! cargo test --release --features questions,conversion,dates --test dates -- --nocapture
 //! cargo test --release --features open       --test open       -- --nocapture
+//! cargo test --release --features journal    --test journal    -- --nocapture
 //! cargo test --release --features open       --test open_steps -- --nocapture
 //! cargo run  --release --features questions        --bin bench_questions
 //! cargo run  --release --features conversion,dates --bin bench_conversion
 //! cargo run  --release --features open             --bin bench_open
 //! ```
+//!
+//! `--test journal_file` runs the program `../target/bin/journal_file` over real
+//! files, cuts them and kills it.
 
 pub mod core;
 pub mod counts;

@@ -57,6 +57,16 @@ pub fn written(table: &[i32]) -> Vec<u8> {
     text.into_bytes()
 }
 
+/// A text of one to four lines, whose table is answered.
+pub fn short(random: &mut Random) -> Vec<u8> {
+    let mut table = vec![0; ENTRY_NUMBERS];
+    for _ in 0..random.below(4) {
+        let x = random.range(1, 60) as i32;
+        table.extend([random.range(1, 2) as i32, 0, 0, x, 0, 0]);
+    }
+    written(&table)
+}
+
 fn valid(random: &mut Random) -> Vec<u8> {
     let cells = random.choose(&[40, 400, 4_000]);
     written(&case_within(random, cells, false).table)

@@ -37,6 +37,7 @@
 //     dates        Date, Dated, Instant               reader       Reader
 //     open_map     OpenNumber, OpenInstant            row_maps     Made
 //     open_steps   OpenStep                           sheet_text   Written
+//     journal      Opened, Recorded, Found
 // A value that is only handed on, as a refusal within an answer, needs none. `crates/caller` is such a program.
 
 // The most entries of a table, the most cells of a pool or a row, and the greatest lateness that may be asked about.
@@ -93,6 +94,25 @@ pub use conversion::convert as convert_plain;
 pub use sheet_text::SHEET_LIMIT;
 pub use sheet_text::Written;
 pub use sheet_text::sheet;
+
+// A journal keeps tables in a file, one appended after another: records of a table's text and a trailer of six bytes
+// that points back to it. Whatever reaches the file of an append that is cut, opening finds the last table that is
+// whole.
+//     open_journal(book)            where the last table's text starts in these bytes and how many it has:
+//                                   Body(start, n); or Empty
+//     journal_record(text, out)     what appending a text writes, in a lent list with zeros behind it: Bytes(n);
+//                                   Refused(line) for a text that is refused with 19, and TooShort, leave the list all
+//                                   zero. RECORD_LIMIT bytes are never too short
+//     last_trailer(window, base)    the same search in a part of a file that starts `base` bytes behind its start: the
+//                                   trailer's place in the window and its body's length. Parts are read from the
+//                                   file's end, and each shares five bytes with the next
+pub use journal::Found;
+pub use journal::Opened;
+pub use journal::RECORD_LIMIT;
+pub use journal::Recorded;
+pub use journal::last_trailer;
+pub use journal::open as open_journal;
+pub use journal::record as journal_record;
 
 // A row with its period and distance. Its questions refuse 13 for a row that is not sound, and pass over the row once
 // for that:
@@ -173,5 +193,6 @@ pub use row_maps::make as make_open_map;
 // The same for C, as include/jogipahn.h declares them.
 mod c_api;
 mod c_civil;
+mod c_journal;
 mod c_open;
 mod c_steps;

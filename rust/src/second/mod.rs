@@ -8,6 +8,7 @@
 
 mod conversion;
 pub mod dates;
+pub mod journal;
 mod kinds;
 mod least;
 mod numbers;

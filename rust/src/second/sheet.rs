@@ -41,7 +41,7 @@ pub fn sheet_into(text: &[u8], out: &mut [u8]) -> Option<usize> {
 
 /// The numbers of all lines, or the first line that is bad: 0 if the text is
 /// too long.
-fn table(text: &[u8]) -> Result<Vec<i32>, u32> {
+pub(super) fn table(text: &[u8]) -> Result<Vec<i32>, u32> {
     if text.len() > TEXT_LIMIT {
         return Err(0);
     }
