@@ -120,6 +120,26 @@ extern "C" {
  * 11 a label outside -1,000,000,000 to 1,000,000,000. */
 int64_t jogipahn_convert(const int32_t *table, size_t n, uint32_t *headings, size_t m, int32_t *pool, size_t p);
 
+/* The conversion in steps: jogipahn_walk_start makes the checks 1 to 3, and each call of jogipahn_walk_step takes one entry. `state` is a
+ * list of 8 numbers, which only these two write and whose content is their own; the caller lends it, and the other three lists, again at
+ * each call. Both answer 0 where there is more to do (the start: begun), 1 where the walk is done, and 100 times a refusal's number plus
+ * its entry. */
+
+/* Begins a walk. All of the pool is INT32_MIN then and all of headings 0, after a refusal too. Refusals: 1, 2, 3, with entry 0. */
+int64_t jogipahn_walk_start(const int32_t *table, size_t n, uint32_t *headings, size_t m, int32_t *pool, size_t p, int64_t *state, size_t s);
+
+/* One call. After k calls without a refusal the lists are those of jogipahn_convert for the first k entries and this pool; a table of n
+ * entries is done after n calls. What counts is each entry as it stands at its own call, and the rows as they stand then: first it is
+ * tested that all three lists have the lengths they had at the start and that the rows of the entries before lie one behind the other,
+ * each sound, in its least form and with its own heading, all behind them being empty; if not, it is 13. A refusal is at the entry due; all
+ * of the pool is INT32_MIN and all of headings 0 then. After the end and after a refusal a call changes nothing and answers the same.
+ * Refusals: 13, then 4 to 12 as in jogipahn_convert.
+ * Where a state has another length than 8, or its first two numbers say nothing that these functions write, both answer 1300 and nothing is
+ * touched (the start asks only for the length). Any other state is taken for what its numbers say, by the same test: it gives 13 where
+ * lists and state do not go together.
+ * A call costs a pass over headings and pool, the test of each stored row, and its own entry. */
+int64_t jogipahn_walk_step(const int32_t *table, size_t n, uint32_t *headings, size_t m, int32_t *pool, size_t p, int64_t *state, size_t s);
+
 /* The sheet of a table that is typed in, all that the program `sheet` prints for that text on its standard input: how many bytes
  * of it stand in out; the rest of out is 0. -1, and all of out 0, where out is too short; 49,792 bytes are enough for any text.
  * The text has a line for each entry, six decimal numbers with a single space between, each line ended by a line feed; no plus sign,

@@ -18,11 +18,15 @@ pub use questions::{
 };
 #[cfg(feature = "sheet")]
 pub use sheet::{sheet, sheet_into};
+#[cfg(feature = "conversion")]
+pub use walk::Walk;
 
 #[cfg(feature = "journal")]
 mod journal;
 #[cfg(feature = "open")]
 mod open;
+#[cfg(feature = "conversion")]
+mod walk;
 
 #[cfg(feature = "questions")]
 mod questions {

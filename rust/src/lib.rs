@@ -15,6 +15,7 @@
 //! ```text
 //! cargo test --release --features questions  --test questions  -- --nocapture
 //! cargo test --release --features conversion --test conversion -- --nocapture
+//! cargo test --release --features conversion --test walks      -- --nocapture
 //! cargo test --release --features sheet      --test sheet      -- --nocapture
 //! cargo test --release --features questions,conversion,dates --test dates -- --nocapture
 //! cargo test --release --features open       --test open       -- --nocapture

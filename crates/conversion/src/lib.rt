@@ -48,7 +48,7 @@ pub fn convert_entry(
 }
 
 // Makes the cells from `start` on empty.
-fn clear_cells(pool: &mut [i32], start: usize)
+pub fn clear_cells(pool: &mut [i32], start: usize)
     requires { ⌜ start ≤ length (now pool) ⌝ }
     ensures { λ r. ⌜ now (pool .exit) ≡ take start (now (pool .entry)) ++ replicate (length (now (pool .entry)) - start) empty ⌝ }
 {
@@ -71,7 +71,7 @@ fn clear_headings(headings: &mut [u32])
 }
 
 // Makes both lists hold nothing.
-fn clear(headings: &mut [u32], pool: &mut [i32])
+pub fn clear(headings: &mut [u32], pool: &mut [i32])
     ensures { λ r. ⌜ Cleared (length (now (headings .entry))) (length (now (pool .entry))) (now (headings .exit)) (now (pool .exit)) ⌝ }
 {
     clear_headings(&mut *headings);

@@ -38,6 +38,7 @@
 //     open_map     OpenNumber, OpenInstant            row_maps     Made
 //     open_steps   OpenStep                           sheet_text   Written
 //     journal      Opened, Recorded, Found
+//     steps        Walk, Progress, Lengths
 // A value that is only handed on, as a refusal within an answer, needs none. `crates/caller` is such a program.
 
 // The most entries of a table, the most cells of a pool or a row, and the greatest lateness that may be asked about.
@@ -87,6 +88,19 @@ pub use conversion::Conversion;
 
 // The same with four plain numbers for each heading: a caller in Rattle proves against it without a proof by hand.
 pub use conversion::convert as convert_plain;
+
+// The conversion in steps, an entry a call, with four plain numbers for each heading; a `Walk` is the state, which the
+// caller keeps. Left alone, the lists of a finished walk are those of `convert`.
+//     start_walk(table, headings, pool)         makes checks 1 to 3 and empties both lists
+//     step_walk(walk, table, headings, pool)    tests the rows that stand, and takes the entry that is due; a walk that
+//                                               has ended stays as it is, and so do the lists
+// `progress` of the walk that is given says Due(entry) for more, Done, or Refused(number, entry), with both lists empty;
+// 13 says that the lists are not as long as at the start, or don't hold the rows of the entries before and nothing else.
+pub use steps::Lengths;
+pub use steps::Progress;
+pub use steps::Walk;
+pub use steps::start as start_walk;
+pub use steps::step as step_walk;
 
 // sheet(text, out): a table's text, a line for each entry, to its sheet, a line for each row or one for a refusal (19 for a
 // text that breaks the rules), in a lent list with zeros behind it. Bytes(n) says how long the sheet is; TooShort, that
@@ -196,3 +210,4 @@ mod c_civil;
 mod c_journal;
 mod c_open;
 mod c_steps;
+mod c_walk;

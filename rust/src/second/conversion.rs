@@ -33,7 +33,7 @@ pub(crate) struct Stored {
 }
 
 impl Stored {
-    fn heading(&self) -> [u32; HEADING_NUMBERS] {
+    pub fn heading(&self) -> [u32; HEADING_NUMBERS] {
         let (start, period) = (self.start as u32, self.period as u32);
         [start, period, self.distance as u32, self.slots as u32]
     }
@@ -43,17 +43,23 @@ impl Stored {
     }
 }
 
-fn convert_all(table: &[i32], headings: &mut [u32], pool: &mut [i32]) -> Result<(), (u32, u32)> {
+/// The checks 1 to 3: how many entries there are.
+pub(crate) fn check_lists(table: &[i32], headings: &[u32], pool: &[i32]) -> Result<usize, u32> {
     let entries = table.len() / ENTRY_NUMBERS;
     if !table.len().is_multiple_of(ENTRY_NUMBERS) || !(1..=ENTRY_LIMIT).contains(&entries) {
-        return Err((1, 0));
+        return Err(1);
     }
     if headings.len() / HEADING_NUMBERS < entries {
-        return Err((2, 0));
+        return Err(2);
     }
     if pool.len() > CELL_LIMIT {
-        return Err((3, 0));
+        return Err(3);
     }
+    Ok(entries)
+}
+
+fn convert_all(table: &[i32], headings: &mut [u32], pool: &mut [i32]) -> Result<(), (u32, u32)> {
+    let entries = check_lists(table, headings, pool).map_err(|refusal| (refusal, 0))?;
     let mut stored = Vec::with_capacity(entries);
     let mut used = 0;
     for (number, entry) in (0..).zip(table.chunks_exact(ENTRY_NUMBERS)) {

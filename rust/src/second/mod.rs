@@ -16,6 +16,7 @@ pub mod open;
 pub mod questions;
 pub mod sheet;
 mod slots;
+pub mod walk;
 
 pub use conversion::convert;
 pub(crate) use conversion::{convert_entry, Stored};
