@@ -52,3 +52,13 @@ group-at (pos P) j q low high w e =
     let f = ends-fit P l h j q (floorMod (negℤ j) P) w (rw e (ceil-eq P l j)) (floor-lt P l (negℤ j)) in
     record { high-fits = f .0; less-fits = f .1; low-fits = f .2; same = same-group P l q }
 group-at (negsuc n) j q low high w e = absurd (low .le)
+
+-- j is one of its labels
+pub group-has : (x j q : ℤ) → pos 1 ≤ℤ x → q ≡ ceilDiv j (up x) → ((q *ℤ x -ℤ x +ℤ pos 1) ≤ℤ j) × (j ≤ℤ (q *ℤ x))
+group-has (pos P) j q low e =
+    let l : 1 ≤ P = low ∴ simp ints (omega arith) in
+    within P q j (floorMod (negℤ j) P) (rw e (ceil-eq P l j)) (floor-lt P l (negℤ j))
+  where
+    within : (P : ℕ) (q j : ℤ) (r : ℕ) → j ≡ pos P *ℤ q -ℤ pos r → r < P → ((q *ℤ pos P -ℤ pos P +ℤ pos 1) ≤ℤ j) × (j ≤ℤ (q *ℤ pos P))
+    within P q j r e l = e ∴ simp ints (omega arith)
+group-has (negsuc n) j q low e = absurd (low .le)

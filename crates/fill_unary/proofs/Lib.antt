@@ -11,6 +11,7 @@
 --     Ends         the working row has a label
 --     Groups       the labels of one group
 --     Turned       a turn of group
+--     Along        the turns of the loop that groups labels stretch by stretch
 pub mod Instants
 pub mod Shifts
 pub mod Numbers
@@ -23,3 +24,4 @@ pub mod Lent
 pub mod Ends
 pub mod Groups
 pub mod Turned
+pub mod Along

@@ -21,7 +21,12 @@ use fill_shared::Filled;
 use fill_shared::Known;
 use fill_shared::covers;
 use fill_shared::end_of;
+use fill_stretches::fill_leading;
+use fill_stretches::fill_stretch;
 use kinds::Operand;
+
+// In a row of one cell, groups of so many labels are filled stretch by stretch.
+const LONG_GROUP: i64 = 16;
 
 // The group of the label j, with the labels that it has.
 fn group_of(x: i64, j: i64) -> Known
@@ -29,6 +34,7 @@ fn group_of(x: i64, j: i64) -> Known
     requires { ⌜ Within (2 ^ 40) j ⌝ }
     ensures of { λ r. ⌜ r .number ≡ ceilDiv j (up x) ⌝ }
     ensures all { λ r. ⌜ ((i : ℤ) → r .low ≤ℤ i → i ≤ℤ r .high → ceilDiv i (up x) ≡ r .number) ⌝ }
+    ensures has { λ r. ⌜ (r .low ≤ℤ j) × (j ≤ℤ r .high) ⌝ }
 {
     let number = integers::ceil_div(j, x);
     let high = number * x;
@@ -80,7 +86,7 @@ fn fill_turn(
 }
 
 // Fills the working row of a group, turn after turn of the operand.
-pub fn fill_group(
+fn fill_turns(
     x: i64,
     span: i64,
     at: usize,
@@ -113,4 +119,66 @@ pub fn fill_group(
         t += count;
     }
     Filled::Labelled
+}
+
+// Fills the working row of a group along the operand: the instants of each group in one stretch.
+fn fill_along(
+    x: i64,
+    span: i64,
+    at: usize,
+    period: usize,
+    pool: &mut [i32],
+    a: Operand,
+    b: Operand,
+) -> Filled
+    requires { ⌜ Fillable (Group x) (rowIn (now pool) a) (rowIn (now pool) b) ⌝ }
+    requires { ⌜ Placed (Group x) a b span at period (now pool) ⌝ }
+    ensures { λ r. ⌜ Fills (over (Group x) (now (pool .entry)) a b) at period (now (pool .entry)) (now (pool .exit)) r ⌝ }
+{
+    let start = a.start;
+    let end = end_of(a, at);
+    let a_period = a.period;
+    let a_distance = a.distance;
+    let mut reached = fill_leading(at, period, &mut *pool, start, end, a_period, a_distance);
+    while reached.t < period {
+        let j = cursors::label_of(&pool[start..end], a_period, a_distance, reached.cursor);
+        let group = group_of(x, j);
+        if !Calendar::in_range(group.number) {
+            return Filled::OutOfRange;
+        }
+        reached = fill_stretch(
+            group.number as i32,
+            group.high,
+            reached,
+            at,
+            period,
+            &mut *pool,
+            start,
+            end,
+            a_period,
+            a_distance,
+        );
+    }
+    Filled::Labelled
+}
+
+// Fills the working row of a group. In a row of one cell every instant of a stretch has a label, so that the cells of a group are all alike.
+pub fn fill_group(
+    x: i64,
+    span: i64,
+    at: usize,
+    period: usize,
+    pool: &mut [i32],
+    a: Operand,
+    b: Operand,
+) -> Filled
+    requires { ⌜ Fillable (Group x) (rowIn (now pool) a) (rowIn (now pool) b) ⌝ }
+    requires { ⌜ Placed (Group x) a b span at period (now pool) ⌝ }
+    ensures { λ r. ⌜ Fills (over (Group x) (now (pool .entry)) a b) at period (now (pool .entry)) (now (pool .exit)) r ⌝ }
+{
+    if a.period == 1 && x >= LONG_GROUP {
+        fill_along(x, span, at, period, pool, a, b)
+    } else {
+        fill_turns(x, span, at, period, pool, a, b)
+    }
 }

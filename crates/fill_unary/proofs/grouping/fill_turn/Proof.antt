@@ -50,7 +50,8 @@ worked-out c =
     let t = c .before .before .before in
     let f = cell-fits (t .before) in
     let j = label-fits t in
-    simp plain at (c .group-of .ensures)
+    let e = simp plain at (c .group-of .ensures) in
+    (e .0, e .1 .0)
 
 is-group : (c : tie.Then1 Inv-loop μ-loop) (n : ℤ) → let i = c .before .before in n ≡ ceilDiv (label i) (up (factor (i .before .before))) → some n ≡ group-at i
 is-group c n e = let i = c .before .before in ap some e ∙ ap (Option·map (λ j. ceilDiv j (up (factor (i .before .before))))) (sym (label-some c))

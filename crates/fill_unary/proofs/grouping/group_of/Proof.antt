@@ -7,7 +7,7 @@ use mir.Val.{SFits}
 use Rattle.integers.specs.Parts.{up}
 use Rattle.integers.specs.Floor.{ceilDiv}
 use Rattle.integers.proofs.Machine.{plain}
-use Rattle.fill_unary.proofs.Groups.{Group, group-at}
+use Rattle.fill_unary.proofs.Groups.{Group, group-at, group-has}
 use Rattle.fill_unary.proofs.grouping.group_of.Statement.{statement}
 use Rattle.fill_unary.proofs.grouping.group_of.Tie as tie
 
@@ -58,7 +58,8 @@ returns c =
     let h = whole c .high-fits in
     let l = whole c .less-fits in
     let m = whole c .low-fits in
-    simp plain (number-is c, whole c .same)
+    let has = group-has (c .before .args .x) (c .before .args .j) (c .ceil-div .result) (c .before .pre .0 .0) (number-is c) in
+    simp plain (number-is c, (whole c .same, has))
 
 pub group-of-spec : {M : Type 1} → statement M
 group-of-spec = tie.close (tie.spec ceil-div-requires mul-high sub-t5 add-t6 returns)
