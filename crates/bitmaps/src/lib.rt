@@ -8,8 +8,8 @@ ghost use Rattle.words.specs.Places.{Clear};
 ghost use Rattle.bitmaps.specs.Zeros.{BitsIn, AnySet};
 ghost use Rattle.bitmaps.specs.Cells.{Few, Within, FirstWord, LastWord, FirstFrom, LastBelow, fitting};
 
-// So many words are tested together whether all are zero.
-const BLOCK: usize = 16;
+// So many words are tested or counted together.
+pub const BLOCK: usize = 16;
 
 // A cell, where there is one.
 pub enum Place {
@@ -25,7 +25,7 @@ pub fn word_at(words: &[u64], i: usize) -> u64
 }
 
 // How many cells of the words from i up to j are set.
-fn ones_in(words: &[u64], i: usize, j: usize) -> usize
+pub fn ones_in(words: &[u64], i: usize, j: usize) -> usize
     requires { ⌜ Few (now words) × (i ≤ j) × (j ≤ length (now words)) ⌝ }
     ensures { λ r. ⌜ tally (cell (now (words .entry))) (64 * i) + r ≡ tally (cell (now (words .entry))) (64 * j) ⌝ }
 {

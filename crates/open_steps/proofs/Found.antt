@@ -1,21 +1,23 @@
 -- The n-th open instant of a map, by the ranks that the map gives.
 -- Assumes nothing.
-use mathlib.Core.Path.{_≡_, _∙_, ap}
+use mathlib.Core.Path.{_≡_, _∙_, ap, subst}
 use mathlib.Core.Bool.{true}
 use mathlib.Core.Option.{some}
 use mathlib.Core.List.{List}
-use Prim.Native.Nat.{ℕ, zero, suc, _<_}
+use Prim.Native.Nat.{ℕ, zero, suc, _*_, _<_}
 use native.Mathlib.Omega.{arith}
 use lib.Signed.{_<ℤ_}
 use lib.IntN.{ℤ, pos, negsuc, _+ℤ_, _-ℤ_, _*ℤ_}
 use Rattle.integers.specs.Parts.{up}
 use Rattle.integers.proofs.Linear.{ints, _∴_}
 use Rattle.calendar.specs.Lists.{only}
-use Rattle.words.specs.Bits.{cell}
+use lib.ListN.{length}
+use Rattle.words.specs.Bits.{cell, tally}
+use Rattle.words.proofs.Tally.{tally-clear}
 use Rattle.open_map.specs.Instants.{nextOpen, lastOpen}
 use Rattle.open_map.specs.Maps.{Map, mapGiven, isOpen}
 use Rattle.open_map.specs.Turns.{rank, setBefore}
-use Rattle.open_map.proofs.Given.{Given}
+use Rattle.open_map.proofs.Given.{Given, within}
 use Rattle.open_map.proofs.Shown.{instantOf, rank-at, rank-step, rank-busy}
 use Rattle.open_map.proofs.Found.{set-below, opens}
 use Rattle.open_steps.specs.Steps.{steps, nthOpen}
@@ -60,3 +62,13 @@ module _ (period : ℤ) (words : List ℕ) (g : Given period words) where
         rank-at map (g .low) (q +ℤ p) i (set-below period words g i (l .set))
         ∙ ((ap (rank map) e ∙ rank-at map (g .low) q c h) ∴ s ∴ l .rank ∴ simp ints (omega arith));
   }
+
+  -- in the turn of t itself
+  pub open-here : (t k q : ℤ) (c j i : ℕ) → t ≡ at q c → c < up period → pos (setBefore map c) +ℤ k ≡ pos j → Nth (cell words) j i → OpenFrom map t k (at q i)
+  open-here t k q c j i e h s l =
+      let z : q +ℤ pos 0 ≡ q = simp ints (omega arith) in
+      subst (λ (p : ℤ). OpenFrom map t k (at p i)) z (open-from t k q (pos 0) c j i e h (s ∴ simp ints (omega arith)) l)
+
+  -- the set cells of the words are those of the period
+  pub all-set : tally (cell words) (64 * length words) ≡ setBefore map (up period)
+  all-set = tally-clear (cell words) (up period) (64 * length words) (within period words g (up period) (omega arith) .1) (λ j a b. g .behind j a)

@@ -9,8 +9,10 @@ use calendar::Refusal;
 use cursors::Found;
 use open_map::OpenNumber;
 
-pub mod cells;
+mod cells;
+mod downward;
 pub mod steps;
+mod upward;
 
 // An open instant, or none.
 pub enum OpenStep {
@@ -20,7 +22,8 @@ pub enum OpenStep {
 }
 
 // The n-th open instant after x, or before x for an n below 0; for 0 it is x where x is open, and else none. Refuses
-// 13, then 14. Costs three passes over the words at the most.
+// 13, then 14. Costs the words on the way inside a turn, two passes over the words at the most over turns, and the zero
+// words that check 13 passes.
 pub fn nth(words: &[u64], period: i64, x: i64, n: i64) -> OpenStep
     ensures { λ r. ⌜ stepReply r ≡ I.nthReply (mapGiven period (now (words .entry))) x n ⌝ }
 {
@@ -38,7 +41,7 @@ pub fn nth(words: &[u64], period: i64, x: i64, n: i64) -> OpenStep
 }
 
 // How many open instants t there are with x < t ≤ y, and minus that for the pair the other way round. Refuses 13,
-// then 14. Costs three passes over the words at the most.
+// then 14. Costs one pass over the words at the most, and the zero words that check 13 passes.
 pub fn between(words: &[u64], period: i64, x: i64, y: i64) -> OpenNumber
     ensures { λ r. ⌜ numberReply r ≡ I.betweenReply (mapGiven period (now (words .entry))) x y ⌝ }
 {

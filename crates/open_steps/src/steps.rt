@@ -2,7 +2,8 @@
 
 ghost use mathlib.Core.Path.{_≡_};
 ghost use mathlib.Core.Bool.{true, _&&_};
-ghost use Prim.Native.Nat.{_^_};
+ghost use Prim.Native.Nat.{_^_, _≤_};
+ghost use lib.IntN.{pos, negsuc};
 ghost use Rattle.integers.specs.Parts.{up};
 ghost use Rattle.calendar.specs.Limits.{inRange};
 ghost use Rattle.cursors.specs.Found.{found, Within};
@@ -10,8 +11,12 @@ ghost use Rattle.open_steps.specs.Steps.{nthOpen, betweenOpen};
 ghost use Rattle.open_map.specs.Maps.{mapGiven, isOpen};
 ghost use Rattle.open_steps.specs.Inquiries.{mayStep};
 ghost use Rattle.open_map.specs.Turns.{Sound};
-ghost use Rattle.open_steps.specs.Ranked.{OpenFrom};
+ghost use Rattle.open_steps.specs.Ranked.{NthFrom, NthBelow, Near, instantAt, OpenFrom};
+ghost use Rattle.open_steps.specs.declared.cells.Selected.the-variants as Selected;
 use super::cells;
+use super::cells::Selected;
+use super::downward;
+use super::upward;
 use calendar::Calendar;
 use cursors::Found;
 use open_map::turns;
@@ -52,20 +57,76 @@ fn is_open(words: &[u64], period: i64, x: i64) -> bool
     cells::is_set(words, cell)
 }
 
-// The open instant whose rank is k above that of t: by whole turns of the set cells, then by words.
+// The open instant with k open instants from the cell of a turn up to it, where this turn has `lacking` too few.
+fn turns_on(words: &[u64], period: i64, turn: i64, cell: usize, k: usize, lacking: usize) -> i64
+    requires { ⌜ Sound period (now words) ⌝ }
+    requires { ⌜ Near period turn cell × (k ≤ 2 ^ 31) × NthFrom (now words) cell k (Selected.Short lacking) ⌝ }
+    ensures { λ r. ⌜ OpenFrom (mapGiven period (now (words .entry))) (instantAt period turn cell) (pos k) r ⌝ }
+{
+    let total = bitmaps::ones_before(words, cell) + (k - lacking);
+    let rest = turns::turn_of(total as i64, (total + lacking) as i64);
+    let left = rest.cell;
+    let i = upward::nth_cell(words, left);
+    turns::composed(period, turn + rest.turn, i)
+}
+
+// The open instant with k open instants from t up to it: in the turn of t, then by whole turns.
+fn open_on(words: &[u64], period: i64, t: i64, k: usize) -> i64
+    requires { ⌜ Sound period (now words) ⌝ }
+    requires { ⌜ Within (2 ^ 31) t × (k ≤ 2 ^ 31) ⌝ }
+    ensures { λ r. ⌜ OpenFrom (mapGiven period (now (words .entry))) t (pos k) r ⌝ }
+{
+    let at = turns::turn_of(period, t);
+    let turn = at.turn;
+    let cell = at.cell;
+    let found = upward::nth_from(words, cell, k);
+    match found {
+        Selected::At(i) => turns::composed(period, turn, i),
+        Selected::Short(lacking) => turns_on(words, period, turn, cell, k, lacking),
+    }
+}
+
+// The open instant with k open instants between it and the cell of a turn, where this turn has `lacking` too few.
+fn turns_back(words: &[u64], period: i64, turn: i64, cell: usize, k: usize, lacking: usize) -> i64
+    requires { ⌜ Sound period (now words) ⌝ }
+    requires { ⌜ Near period turn cell × (k ≤ 2 ^ 31) × NthBelow (now words) cell k (Selected.Short lacking) ⌝ }
+    ensures { λ r. ⌜ OpenFrom (mapGiven period (now (words .entry))) (instantAt period turn cell) (negsuc k) r ⌝ }
+{
+    let cells = period as usize;
+    let total = k - lacking + bitmaps::ones_between(words, cell, cells);
+    let rest = turns::turn_of(total as i64, -1 - lacking as i64);
+    let left = rest.cell;
+    let i = downward::nth_cell(words, cells, total - 1 - left);
+    turns::composed(period, turn + rest.turn, i)
+}
+
+// The open instant with k open instants between it and t: in the turn of t, then by whole turns.
+fn open_back(words: &[u64], period: i64, t: i64, k: usize) -> i64
+    requires { ⌜ Sound period (now words) ⌝ }
+    requires { ⌜ Within (2 ^ 31) t × (k ≤ 2 ^ 31) ⌝ }
+    ensures { λ r. ⌜ OpenFrom (mapGiven period (now (words .entry))) t (negsuc k) r ⌝ }
+{
+    let at = turns::turn_of(period, t);
+    let turn = at.turn;
+    let cell = at.cell;
+    let found = downward::nth_below(words, cell, k);
+    match found {
+        Selected::At(i) => turns::composed(period, turn, i),
+        Selected::Short(lacking) => turns_back(words, period, turn, cell, k, lacking),
+    }
+}
+
+// The open instant whose rank is k above that of t.
 fn open_from(words: &[u64], period: i64, t: i64, k: i64) -> i64
     requires { ⌜ Sound period (now words) ⌝ }
     requires { ⌜ Within (2 ^ 31) t × Within (2 ^ 31) k ⌝ }
     ensures { λ r. ⌜ OpenFrom (mapGiven period (now (words .entry))) t k r ⌝ }
 {
-    let total = turns::set_cells(words, period);
-    let at = turns::turn_of(period, t);
-    let cell = at.cell;
-    let before = bitmaps::ones_before(words, cell);
-    let rest = turns::turn_of(total, before as i64 + k);
-    let left = rest.cell;
-    let i = cells::nth_cell(words, left);
-    turns::composed(period, at.turn + rest.turn, i)
+    if k < 0 {
+        open_back(words, period, t, (-1 - k) as usize)
+    } else {
+        open_on(words, period, t, k as usize)
+    }
 }
 
 // The n-th open instant after x, or before x for an n below 0; for 0 it is x, where x is open.
