@@ -1,5 +1,5 @@
-/* The conversion of a table of calendars to rows, questions to a row or to its open map, dates, and a journal of tables.
- * `rt staticlib jogipahn` writes the archive that has the functions, target/staticlib/libjogipahn.a (link with -lm).
+/* The conversion of a table of calendars to rows, the check of finished rows, questions to a row or to its open map, dates, and a
+ * journal of tables. `rt staticlib jogipahn` writes the archive that has the functions, target/staticlib/libjogipahn.a (link with -lm).
  *
  * A row is the labels of the instants 0 to period - 1, and INT32_MIN for an instant that has none; the instants with one
  * label are a slot. The instant t has the label in cell (t mod period) plus distance * floor(t / period). A question is handed a row as its cells, with their number, its period and its
@@ -139,6 +139,13 @@ int64_t jogipahn_walk_start(const int32_t *table, size_t n, uint32_t *headings, 
  * lists and state do not go together.
  * A call costs a pass over headings and pool, the test of each stored row, and its own entry. */
 int64_t jogipahn_walk_step(const int32_t *table, size_t n, uint32_t *headings, size_t m, int32_t *pool, size_t p, int64_t *state, size_t s);
+
+/* Checks finished headings, four numbers an entry, and rows that somebody else made for the table: 0 exactly if jogipahn_convert answers
+ * the table and would leave just these numbers and cells in lists of these lengths, all behind the last heading and the last row
+ * included. Else it stops at the first entry that jogipahn_convert refuses or whose heading or row is not right: 100 times a refusal's number plus its
+ * entry (0 for 1 to 3, which come first), or, where the entry is not refused, -1 - entry. Where only what is behind is not right,
+ * it is -1 - the number of entries. Nothing is written. Refusals are those of jogipahn_convert, in its order. */
+int64_t jogipahn_check(const int32_t *table, size_t n, const uint32_t *headings, size_t m, const int32_t *pool, size_t p);
 
 /* The sheet of a table that is typed in, all that the program `sheet` prints for that text on its standard input: how many bytes
  * of it stand in out; the rest of out is 0. -1, and all of out 0, where out is too short; 49,792 bytes are enough for any text.

@@ -4,6 +4,8 @@
 //! They hand over dirty memory where the core has to write, and stop the
 //! program where an answer has no meaning.
 
+#[cfg(feature = "check")]
+pub use check::check;
 #[cfg(feature = "conversion")]
 pub use conversion::convert;
 #[cfg(feature = "dates")]
@@ -20,6 +22,9 @@ pub use questions::{
 pub use sheet::{sheet, sheet_into};
 #[cfg(feature = "conversion")]
 pub use walk::Walk;
+
+#[cfg(feature = "check")]
+mod check;
 
 #[cfg(feature = "journal")]
 mod journal;

@@ -18,7 +18,7 @@ pub struct Instant {
 }
 
 // Whether there is a label, and it is not below j.
-fn at_least(label: Found, j: i64) -> bool
+pub fn at_least(label: Found, j: i64) -> bool
     ensures { λ r. ⌜ r ≡ atLeast j (found label) ⌝ }
 {
     match label {

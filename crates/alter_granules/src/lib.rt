@@ -17,7 +17,7 @@ pub mod ahead;
 pub mod behind;
 pub mod coarse;
 mod emptying;
-mod origin;
+pub mod origin;
 
 // After how many coarse granules the altering repeats, and by how many fine ones: document 01's n and D.
 pub struct Repeat {

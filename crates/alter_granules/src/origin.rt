@@ -25,7 +25,7 @@ pub struct Labelled {
 }
 
 // The first labelled instant from 0 on.
-fn first_labelled(cells: &[i32], period: i64, distance: i64) -> Labelled
+pub fn first_labelled(cells: &[i32], period: i64, distance: i64) -> Labelled
     requires { ⌜ Sound period distance (now cells) ⌝ }
     ensures { λ r. ⌜ Opens (given period distance (now (cells .entry))) r ⌝ }
 {

@@ -24,7 +24,7 @@ use kinds::Operand;
 use sizes::Turn;
 
 // Document 01's n and D.
-fn repeat_of(
+pub fn repeat_of(
     by: Alteration,
     span: i64,
     a_cells: &[i32],

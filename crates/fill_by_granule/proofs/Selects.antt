@@ -35,16 +35,16 @@ use Rattle.fill_by_granule.proofs.Along.{Along, along-none, along-on, a
 
 -- ---- the label
 
-select-of : (x : Selections) (a b : Row) (t : ℤ) (o : Option ℤ) → meant a t ≡ o → result (binary (select x) a b) t ≡ onLabel o (λ j. only j (selects x a b j))
+pub select-of : (x : Selections) (a b : Row) (t : ℤ) (o : Option ℤ) → meant a t ≡ o → result (binary (select x) a b) t ≡ onLabel o (λ j. only j (selects x a b j))
 unfolding result
 select-of x a b t o e = ap (λ (p : Option ℤ). onLabel p (λ j. only j (selects x a b j))) e
 
-flag-is : (x : Bool) → equal (flagOf x) (pos 1) ≡ x
+pub flag-is : (x : Bool) → equal (flagOf x) (pos 1) ≡ x
 flag-is true = refl
 flag-is false = refl
 
 -- nothing is known of Pick
-recalls-none : (s : Selection) (a b : Row) (m : Picked) → m .known ≡ pos 0 → Remembers s a b m
+pub recalls-none : (s : Selection) (a b : Row) (m : Picked) → m .known ≡ pos 0 → Remembers s a b m
 recalls-none (Down p) a b m e = λ h. absurd (e ∴ h ∴ simp ints (omega arith))
 recalls-none Up a b m e = tt
 recalls-none (Intersecting p) a b m e = λ h. absurd (e ∴ h ∴ simp ints (omega arith))

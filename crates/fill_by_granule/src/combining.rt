@@ -82,7 +82,7 @@ fn lies(
 }
 
 // The label of the combination at the instant t, which is in b's granule k: a's label, where the granule lies in a's.
-fn combined(
+pub fn combined(
     fresh: bool,
     k: i64,
     t: i64,

@@ -23,7 +23,7 @@ use kinds::Operand;
 use kinds::Selection;
 
 // The label of a granule that is kept (1 is yes), or none.
-fn kept(j: i64, holds: i64) -> Found
+pub fn kept(j: i64, holds: i64) -> Found
     ensures { λ r. ⌜ found r ≡ only j (equal holds (pos 1)) ⌝ }
 {
     if holds == 1 {

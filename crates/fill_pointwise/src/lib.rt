@@ -93,7 +93,7 @@ fn later(last: i64, y: Found) -> i64
 }
 
 // The label of the instant t.
-fn step(
+pub fn step(
     by: Pointwise,
     s: Scanning,
     t: i64,

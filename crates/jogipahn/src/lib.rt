@@ -39,6 +39,7 @@
 //     open_steps   OpenStep                           sheet_text   Written
 //     journal      Opened, Recorded, Found
 //     steps        Walk, Progress, Lengths
+//     verdicts     Verdict
 // A value that is only handed on, as a refusal within an answer, needs none. `crates/caller` is such a program.
 
 // The most entries of a table, the most cells of a pool or a row, and the greatest lateness that may be asked about.
@@ -101,6 +102,14 @@ pub use steps::Progress;
 pub use steps::Walk;
 pub use steps::start as start_walk;
 pub use steps::step as step_walk;
+
+// check(table, headings, pool): finished headings, four plain numbers each, and rows, whoever made them. Accepted exactly
+// when `convert` answers the table and would leave just these lists, cells behind the last row and numbers behind the last
+// heading included. Else Refused(number, entry) or Wrong(entry) at the first entry that `convert` refuses, or whose
+// heading or row is not right; a refusal comes first at an entry, and Wrong with the number of entries says that only the
+// rest is not right. Nothing is written. Costs time as `convert` does, and no memory.
+pub use checking::check;
+pub use verdicts::Verdict;
 
 // sheet(text, out): a table's text, a line for each entry, to its sheet, a line for each row or one for a refusal (19 for a
 // text that breaks the rules), in a lent list with zeros behind it. Bytes(n) says how long the sheet is; TooShort, that
@@ -206,6 +215,7 @@ pub use row_maps::make as make_open_map;
 
 // The same for C, as include/jogipahn.h declares them.
 mod c_api;
+mod c_check;
 mod c_civil;
 mod c_journal;
 mod c_open;

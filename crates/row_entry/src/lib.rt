@@ -40,7 +40,7 @@ pub enum Appended {
 }
 
 // The row whose heading is the j-th.
-fn operand_at(headings: &[u32], j: usize) -> Operand
+pub fn operand_at(headings: &[u32], j: usize) -> Operand
     requires { ⌜ headingLength * j + headingLength ≤ length (now headings) ⌝ }
     ensures { λ r. ⌜ r ≡ operandOf (now (headings .entry)) j ⌝ }
 {
@@ -54,7 +54,7 @@ fn operand_at(headings: &[u32], j: usize) -> Operand
 }
 
 // A number of a heading.
-fn number(z: i64) -> u32
+pub fn number(z: i64) -> u32
     requires { ⌜ (pos 0 ≤ℤ z) × (z ≤ℤ pos poolLimit) ⌝ }
     ensures { λ r. ⌜ r ≡ up z ⌝ }
 {
@@ -81,7 +81,7 @@ fn write_heading(
 }
 
 // The checks of an operation over rows of the pool: 7 by their granules, then the others.
-fn check_in(kind: Kind, room: i64, pool: &[i32], a: Operand, b: Operand) -> Checked
+pub fn check_in(kind: Kind, room: i64, pool: &[i32], a: Operand, b: Operand) -> Checked
     requires { ⌜ Numbers kind ⌝ }
     requires { ⌜ SoundFirst (operands kind) (rowIn (now pool) a) (rowIn (now pool) b) ⌝ }
     requires { ⌜ CountedFirst (operands kind) (now pool) a b ⌝ }

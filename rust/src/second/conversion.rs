@@ -43,23 +43,25 @@ impl Stored {
     }
 }
 
-/// The checks 1 to 3: how many entries there are.
-pub(crate) fn check_lists(table: &[i32], headings: &[u32], pool: &[i32]) -> Result<usize, u32> {
-    let entries = table.len() / ENTRY_NUMBERS;
-    if !table.len().is_multiple_of(ENTRY_NUMBERS) || !(1..=ENTRY_LIMIT).contains(&entries) {
+/// The checks 1, 2 and 3 of lists by their lengths: how many entries there are,
+/// or the number of the refusal.
+pub(crate) fn admitted(table: usize, headings: usize, pool: usize) -> Result<usize, u32> {
+    let entries = table / ENTRY_NUMBERS;
+    if !table.is_multiple_of(ENTRY_NUMBERS) || !(1..=ENTRY_LIMIT).contains(&entries) {
         return Err(1);
     }
-    if headings.len() / HEADING_NUMBERS < entries {
+    if headings / HEADING_NUMBERS < entries {
         return Err(2);
     }
-    if pool.len() > CELL_LIMIT {
+    if pool > CELL_LIMIT {
         return Err(3);
     }
     Ok(entries)
 }
 
 fn convert_all(table: &[i32], headings: &mut [u32], pool: &mut [i32]) -> Result<(), (u32, u32)> {
-    let entries = check_lists(table, headings, pool).map_err(|refusal| (refusal, 0))?;
+    let entries =
+        admitted(table.len(), headings.len(), pool.len()).map_err(|number| (number, 0))?;
     let mut stored = Vec::with_capacity(entries);
     let mut used = 0;
     for (number, entry) in (0..).zip(table.chunks_exact(ENTRY_NUMBERS)) {

@@ -6,6 +6,7 @@
 //! freely; time is linear in the span and the working period, apart from the
 //! few prime factors tried for the least form.
 
+pub mod check;
 mod conversion;
 pub mod dates;
 pub mod journal;
@@ -19,7 +20,7 @@ mod slots;
 pub mod walk;
 
 pub use conversion::convert;
-pub(crate) use conversion::{convert_entry, Stored};
+pub(crate) use conversion::{admitted, convert_entry, Stored};
 
 /// The cell that means "no label".
 pub const EMPTY: i32 = i32::MIN;

@@ -1,6 +1,6 @@
 //! Conversion in steps: the checks 1 to 3, then one entry a call.
 
-use super::conversion::{check_lists, convert_entry, Stored};
+use super::conversion::{admitted, convert_entry, Stored};
 use super::questions::{least_period, Row};
 use super::{EMPTY, ENTRY_NUMBERS, HEADING_NUMBERS};
 
@@ -27,7 +27,7 @@ impl Walk {
     /// Begins a walk. Both lists are empty then.
     pub fn start(table: &[i32], headings: &mut [u32], pool: &mut [i32]) -> Self {
         let lengths = [table.len(), headings.len(), pool.len()];
-        let progress = match check_lists(table, headings, pool) {
+        let progress = match admitted(table.len(), headings.len(), pool.len()) {
             Ok(_) => Progress::More,
             Err(number) => Progress::Refused(number, 0),
         };

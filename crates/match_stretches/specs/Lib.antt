@@ -1,0 +1,3 @@
+-- Stretches of a claimed row.
+--     Stretch      what a stretch is given, and what it tells
+pub mod Stretch

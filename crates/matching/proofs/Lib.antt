@@ -1,0 +1,1 @@
+-- A claimed row beside the working row of any kind.
