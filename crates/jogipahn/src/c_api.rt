@@ -4,50 +4,11 @@
 
 ghost use mathlib.Core.Path.{_≡_};
 ghost use lib.ListN.{length};
-ghost use Rattle.calendar.specs.Refusals.{numberOf};
 ghost use Rattle.calendar.specs.Questions.{given};
 ghost use Rattle.calendar.specs.Questions as Q;
-ghost use Rattle.questions.specs.Answers.{upReply, counted, partsAfter, leastPeriod, mayBeLate};
-ghost use Rattle.jogipahn.specs.LeftCoded.{LeftCoded, SheetCoded};
-ghost use Rattle.jogipahn.specs.Codes.{refusalCode, placedCode, placedLabel, placedPlace, upCode, upLabel, downCode, FiguresLeft, leastCode, triedLeft, lateCode, allowanceOf, conversionCode};
-use calendar::Refusal;
-use conversion::Conversion;
-use floats::Allowance;
-use questions::Figured;
-use questions::Late;
-use questions::Placing;
-use questions::Shortening;
-use questions::Up;
-use questions::down::Parted;
-use sheet_text::Written;
-
-// A refusal as a number.
-fn refusal_code(x: Refusal) -> i64
-    ensures { λ r. ⌜ r ≡ refusalCode (numberOf x) ⌝ }
-{
-    0 - (x.number() as i64)
-}
-
-// An answer of up from a slot: 1 with a label, which goes into `label`, and 0 with none.
-fn told(up: Up, label: &mut i64) -> i64
-    ensures code { λ r. ⌜ r ≡ upCode (upReply up) ⌝ }
-    ensures label { λ r. ⌜ now (label .exit) ≡ upLabel (upReply up) ⌝ }
-{
-    match up {
-        Up::Label(j) => {
-            *label = j;
-            1
-        }
-        Up::Nothing => {
-            *label = 0;
-            0
-        }
-        Up::Refused(x) => {
-            *label = 0;
-            refusal_code(x)
-        }
-    }
-}
+ghost use Rattle.questions.specs.Answers.{counted, partsAfter, leastPeriod, mayBeLate};
+ghost use Rattle.questions_api.specs.Codes.{placedCode, placedLabel, placedPlace, upCode, upLabel, downCode, FiguresLeft, leastCode, triedLeft, lateCode, allowanceOf};
+ghost use Rattle.table_api.specs.LeftCoded.{LeftCoded, SheetCoded};
 
 // The label of the instant t, in `label`, and its place among the slot's own instants, in `place`: 1; or 0 if it has
 // none.
@@ -64,24 +25,7 @@ pub extern "C" fn jogipahn_up_instant(
     ensures label { λ r. ⌜ now (label .exit) ≡ placedLabel (Q.upFromInstant (given period distance (now (cells .entry))) t) ⌝ }
     ensures place { λ r. ⌜ now (place .exit) ≡ placedPlace (Q.upFromInstant (given period distance (now (cells .entry))) t) ⌝ }
 {
-    let placing = questions::up_instant(t, cells, period, distance);
-    match placing {
-        Placing::At(j, n) => {
-            *label = j;
-            *place = n as i64;
-            1
-        }
-        Placing::Nothing => {
-            *label = 0;
-            *place = 0;
-            0
-        }
-        Placing::Refused(x) => {
-            *label = 0;
-            *place = 0;
-            refusal_code(x)
-        }
-    }
+    questions_api::up_instant(cells, period, distance, t, label, place)
 }
 
 // The label of the slot of h that contains the whole slot z of g, in `label`: 1; or 0 if there is none.
@@ -99,16 +43,16 @@ pub extern "C" fn jogipahn_up_granule(
     ensures code { λ r. ⌜ r ≡ upCode (Q.upFromGranule (given «g_period» «g_distance» (now («g_cells» .entry))) (given «h_period» «h_distance» (now («h_cells» .entry))) z) ⌝ }
     ensures label { λ r. ⌜ now (label .exit) ≡ upLabel (Q.upFromGranule (given «g_period» «g_distance» (now («g_cells» .entry))) (given «h_period» «h_distance» (now («h_cells» .entry))) z) ⌝ }
 {
-    let up = questions::up_granule(
-        z,
+    questions_api::up_granule(
         g_cells,
         g_period,
         g_distance,
         h_cells,
         h_period,
         h_distance,
-    );
-    told(up, label)
+        z,
+        label,
+    )
 }
 
 // The labels of g's slots that make up the slot z of h, rising, in `parts`, with zeros behind them: how many there
@@ -127,20 +71,16 @@ pub extern "C" fn jogipahn_down(
     ensures code { λ r. ⌜ r ≡ downCode (counted (Q.down (given «h_period» «h_distance» (now («h_cells» .entry))) (given «g_period» «g_distance» (now («g_cells» .entry))) z (length (now (parts .entry))))) ⌝ }
     ensures list { λ r. ⌜ now (parts .exit) ≡ partsAfter (length (now (parts .entry))) (Q.down (given «h_period» «h_distance» (now («h_cells» .entry))) (given «g_period» «g_distance» (now («g_cells» .entry))) z (length (now (parts .entry)))) ⌝ }
 {
-    let parted = questions::down::down(
-        z,
-        &mut *parts,
+    questions_api::down(
         h_cells,
         h_period,
         h_distance,
         g_cells,
         g_period,
         g_distance,
-    );
-    match parted {
-        Parted::Parts(n) => n as i64,
-        Parted::Refused(x) => refusal_code(x),
-    }
+        z,
+        parts,
+    )
 }
 
 // The open part of a row with so many slots in its period, the mean length of its slots and their mean spacing: 0.
@@ -156,21 +96,15 @@ pub extern "C" fn jogipahn_figures(
 ) -> i64
     ensures { λ r. ⌜ FiguresLeft (given period distance (now (cells .entry))) granules r (now (openness .exit)) (now («mean_length» .exit)) (now («mean_spacing» .exit)) ⌝ }
 {
-    let figured = questions::figures(granules, cells, period, distance);
-    match figured {
-        Figured::Are(v) => {
-            *openness = v.openness;
-            *mean_length = v.mean_length;
-            *mean_spacing = v.mean_spacing;
-            0
-        }
-        Figured::Refused(x) => {
-            *openness = 0.0;
-            *mean_length = 0.0;
-            *mean_spacing = 0.0;
-            refusal_code(x)
-        }
-    }
+    questions_api::figures(
+        cells,
+        period,
+        distance,
+        granules,
+        openness,
+        mean_length,
+        mean_spacing,
+    )
 }
 
 // The least period of the row; how many divisors were tried for it, in `tried`.
@@ -184,29 +118,7 @@ pub extern "C" fn jogipahn_least_period(
     ensures code { λ r. ⌜ r ≡ leastCode (leastPeriod (given period distance (now (cells .entry)))) ⌝ }
     ensures tried { λ r. ⌜ now (tried .exit) ≡ triedLeft (leastPeriod (given period distance (now (cells .entry)))) ⌝ }
 {
-    let shortening = questions::least_period(cells, period, distance);
-    match shortening {
-        Shortening::To(shortest) => {
-            *tried = shortest.tried as i64;
-            shortest.period
-        }
-        Shortening::Refused(x) => {
-            *tried = 0;
-            refusal_code(x)
-        }
-    }
-}
-
-// The allowance of a rule: 0 a fixed number of instants, 1 a share. Any other rule gets one that is never allowed, so
-// that it is refused in its turn.
-fn allowance_of(rule: i64, amount: f64) -> Allowance
-    ensures { λ r. ⌜ r ≡ allowanceOf rule amount ⌝ }
-{
-    match rule {
-        0 => Allowance::Fixed(amount),
-        1 => Allowance::Share(amount),
-        _ => Allowance::Fixed(-1.0),
-    }
+    questions_api::least_period(cells, period, distance, tried)
 }
 
 // Whether a delivery may be d instants late on the slot z: 1 for yes, 0 for no.
@@ -222,22 +134,7 @@ pub extern "C" fn jogipahn_may_be_late(
 ) -> i64
     ensures { λ r. ⌜ r ≡ lateCode (mayBeLate (given period distance (now (cells .entry))) z d (allowanceOf rule amount)) ⌝ }
 {
-    let late = questions::may_be_late(z, d, allowance_of(rule, amount), cells, period, distance);
-    match late {
-        Late::Allowed => 1,
-        Late::TooLate => 0,
-        Late::Refused(x) => refusal_code(x),
-    }
-}
-
-// What converting came to as a number.
-fn conversion_code(c: Conversion) -> i64
-    ensures { λ r. ⌜ r ≡ conversionCode c ⌝ }
-{
-    match c {
-        Conversion::Refused(number, entry) => 100 * (number as i64) + entry as i64,
-        Conversion::Converted => 0,
-    }
+    questions_api::may_be_late(cells, period, distance, z, d, rule, amount)
 }
 
 // Converts a table, with four numbers a heading: 0, or 100 times the refusal's number plus its entry.
@@ -245,8 +142,7 @@ fn conversion_code(c: Conversion) -> i64
 pub extern "C" fn jogipahn_convert(table: &[i32], headings: &mut [u32], pool: &mut [i32]) -> i64
     ensures { λ r. ⌜ LeftCoded (now (table .entry)) (length (now (headings .entry))) (length (now (pool .entry))) r (now (headings .exit)) (now (pool .exit)) ⌝ }
 {
-    let converted = conversion::convert(table, &mut *headings, &mut *pool);
-    conversion_code(converted)
+    table_api::convert(table, headings, pool)
 }
 
 // Writes the sheet of a table's text into `out`, with zeros behind it: how many bytes it has; or -1 where `out`, then all
@@ -255,9 +151,5 @@ pub extern "C" fn jogipahn_convert(table: &[i32], headings: &mut [u32], pool: &m
 pub extern "C" fn jogipahn_sheet(text: &[u8], out: &mut [u8]) -> i64
     ensures { λ r. ⌜ SheetCoded (now (text .entry)) (length (now (out .entry))) r (now (out .exit)) ⌝ }
 {
-    let written = sheet_text::sheet(text, &mut *out);
-    match written {
-        Written::Bytes(n) => n as i64,
-        Written::TooShort => -1,
-    }
+    table_api::sheet(text, out)
 }
