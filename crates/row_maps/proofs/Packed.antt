@@ -3,12 +3,32 @@
 use mathlib.Core.Path.{_≡_, refl, sym, ap, _∙_}
 use mathlib.Core.Logic.{_⊎_, inl, inr}
 use Prim.Native.Nat.{ℕ, zero, suc, _+_, _*_, _/_, _%_, _^_, _≤_, _<_}
-use native.Mathlib.Nat.{eq-or-lt-of-le, mul-le-mul-right, pow-suc, mod-eq-of-lt, add-comm}
+use native.Mathlib.Nat.{eq-or-lt-of-le, mul-le-mul-right, pow-suc, mod-eq-of-lt, lt-of-lt-of-le, add-comm, add-zero, zero-mul, mul-comm, mul-assoc, add-mul}
 use native.Mathlib.Omega.{arith}
-use lib.Pow.{high, low}
+use lib.Pow.{high, low, pow-add, pow-mono}
 use Rattle.words.specs.Bits.{bit}
 use Rattle.words.proofs.Parts.{bit-low}
 use Rattle.row_maps.specs.Making.{packed}
+
+-- the lowest m bits, and those above
+pub packed-join : (f : ℕ → ℕ) (m n : ℕ) → packed f (m + n) ≡ packed f m + packed (λ k. f (m + k)) n * 2 ^ m
+unfolding packed
+packed-join f m zero = ap (packed f) (add-zero m) ∙ sym (ap (λ (x : ℕ). packed f m + x) (zero-mul (2 ^ m)) ∙ add-zero (packed f m))
+packed-join f m (suc n) =
+    let e : m + suc n ≡ suc (m + n) = omega arith in
+    let g : ℕ → ℕ = λ k. f (m + k) in
+    let p : f (m + n) * 2 ^ (m + n) ≡ f (m + n) * 2 ^ n * 2 ^ m =
+    ap (λ (x : ℕ). f (m + n) * x) (pow-add 2 m n ∙ mul-comm (2 ^ m) (2 ^ n)) ∙ sym (mul-assoc (f (m + n)) (2 ^ n) (2 ^ m)) in
+    ap (packed f) e ∙ omega (arith, packed-join f m n, p, add-mul (packed g n) (f (m + n) * 2 ^ n) (2 ^ m))
+
+-- 64 bits of two halves
+pub two-halves : (f g : ℕ → ℕ) → ((k : ℕ) → g k ≡ f (32 + k)) → (low high : ℕ) → high < 2 ^ 32 → low ≡ packed f 32 → high ≡ packed g 32
+    → low + (high * 2 ^ 32) % 2 ^ 64 ≡ packed f 64
+two-halves f g e low high b p q =
+    let h : packed g 32 ≡ packed (λ k. f (32 + k)) 32 = λ x. packed (λ k. e k x) 32 in
+    let exact : (high * 2 ^ 32) % 2 ^ 64 ≡ high * 2 ^ 32 = mod-eq-of-lt (omega arith) in
+    let j : packed f 64 ≡ packed f 32 + packed (λ k. f (32 + k)) 32 * 2 ^ 32 = packed-join f 32 32 in
+    omega arith
 
 module _ (f : ℕ → ℕ) (bits : (i : ℕ) → f i ≤ 1) where
   pub packed-zero : packed f 0 ≡ 0
@@ -45,3 +65,12 @@ module _ (f : ℕ → ℕ) (bits : (i : ℕ) → f i ≤ 1) where
       by : (j ≡ n) ⊎ (j < n) → (j < n → bit (packed f n) j ≡ f j) → bit (packed f (suc n)) j ≡ f j
       by (inl e) before = ap (bit (packed f (suc n))) e ∙ highest n ∙ ap f (sym e)
       by (inr l) before = sym (bit-low (packed f (suc n)) n j l) ∙ ap (λ (m : ℕ). bit m j) (rest n) ∙ before l
+
+  -- one bit more, in w bits
+  pub packed-grown : (w k v b : ℕ) → k < w → v ≡ packed f k → b ≡ f k → (v + (b * 2 ^ k) % 2 ^ w ≡ packed f (k + 1)) × (packed f (k + 1) < 2 ^ w)
+  packed-grown w k v b h e d =
+      let small : packed f (k + 1) < 2 ^ w = lt-of-lt-of-le (packed-lt (k + 1)) (pow-mono {i = k + 1} {j = w} (omega arith)) in
+      let one = packed-one k in
+      let p = ap (λ (n : ℕ). n * 2 ^ k) d in
+      let exact : (b * 2 ^ k) % 2 ^ w ≡ b * 2 ^ k = mod-eq-of-lt (omega (arith, one, p, small)) in
+      (omega (arith, exact, one, p, e), small)

@@ -1,11 +1,11 @@
 // The open map of a row: one bit for each cell, in words of 64.
 
 ghost use mathlib.Core.Path.{_≡_};
-ghost use Prim.Native.Nat.{_^_, _<_};
+ghost use Prim.Native.Nat.{_+_, _^_, _≤_, _<_};
 ghost use lib.ListN.{length, replicate};
 ghost use Rattle.calendar.specs.Questions.{given};
 ghost use Rattle.bitmaps.specs.Cells.{wordsFor};
-ghost use Rattle.row_maps.specs.Making.{labelled, wordOf, mapOf, mapReply, mapAfter, refusal, made};
+ghost use Rattle.row_maps.specs.Making.{labelled, packed, wordOf, mapOf, mapReply, mapAfter, refusal, made};
 use calendar::Calendar;
 use calendar::Refusal;
 
@@ -14,31 +14,67 @@ pub enum Made {
     Refused(Refusal),
 }
 
-// 1 where the cell c has a label, and 0 elsewhere and past the last cell.
-fn label_bit(cells: &[i32], c: usize) -> u64
+// 1 where the cell c has a label, and 0 elsewhere.
+fn label_bit(cells: &[i32], c: usize) -> u32
+    requires { ⌜ c < length (now cells) ⌝ }
     ensures { λ r. ⌜ r ≡ labelled (now (cells .entry)) c ⌝ }
 {
-    if cells.len() <= c {
-        return 0;
-    }
     if cells[c] == Calendar::EMPTY {
         return 0;
     }
     1
 }
 
-// The word i of the map.
-fn word_of(cells: &[i32], i: usize) -> u64
+// The bits of the 32 cells from c on, without a branch: several cells are tested at once.
+fn half_of(cells: &[i32], c: usize) -> u32
+    requires { ⌜ c + 32 ≤ length (now cells) ⌝ }
+    ensures { λ r. ⌜ r ≡ packed (λ k. labelled (now (cells .entry)) (c + k)) 32 ⌝ }
+{
+    let mut half: u32 = 0;
+    let mut k = 0;
+    while k < 32 {
+        half += label_bit(cells, c + k) << k;
+        k += 1;
+    }
+    half
+}
+
+// 1 where the cell c has a label, and 0 elsewhere and past the last cell.
+fn bit_at(cells: &[i32], c: usize) -> u32
+    ensures { λ r. ⌜ r ≡ labelled (now (cells .entry)) c ⌝ }
+{
+    if cells.len() <= c {
+        return 0;
+    }
+    label_bit(cells, c)
+}
+
+// The word i of the map, cell by cell.
+fn last_word(cells: &[i32], i: usize) -> u64
     requires { ⌜ i < 2 ^ 32 ⌝ }
     ensures { λ r. ⌜ r ≡ wordOf (now (cells .entry)) i ⌝ }
 {
     let mut word: u64 = 0;
     let mut k = 0;
     while k < 64 {
-        word += label_bit(cells, 64 * i + k) << k;
+        word += (bit_at(cells, 64 * i + k) as u64) << k;
         k += 1;
     }
     word
+}
+
+// The word i of the map: in two halves where all its cells are there.
+fn word_of(cells: &[i32], i: usize) -> u64
+    requires { ⌜ i < 2 ^ 32 ⌝ }
+    ensures { λ r. ⌜ r ≡ wordOf (now (cells .entry)) i ⌝ }
+{
+    let c = 64 * i;
+    if cells.len() < c + 64 {
+        return last_word(cells, i);
+    }
+    let low = half_of(cells, c);
+    let high = half_of(cells, c + 32);
+    low as u64 + ((high as u64) << 32)
 }
 
 // All words are made zero.

@@ -5,7 +5,7 @@ use mathlib.Core.Bool.{Bool, cond}
 use Prim.Native.Nat.{ℕ}
 use borrow.Author.Needs.{needs, sfits-of}
 use lib.IntN.{ℤ, pos}
-use lib.ListN.{getD, List·getD-eq-default}
+use lib.ListN.{getD}
 use Rattle.calendar.specs.Meaning.{empty, isEmpty}
 use Rattle.cursors.proofs.Cells.{getD-any, bits-empty, bits-full}
 use Rattle.row_maps.proofs.label_bit.Statement.{statement}
@@ -15,34 +15,28 @@ use Rattle.row_maps.proofs.label_bit.Tie as tie
 abbrev oneIf : ℤ → ℕ
 oneIf z = cond (isEmpty z) 0 1
 
-returns : tie.Need-returns
-returns c =
-    let s = c .before in
-    let e : getD (s .args .cells .now) (s .args .c) empty ≡ empty = List·getD-eq-default (s .args .cells .now) empty (c .if1 .taken) in
-    sym (ap oneIf e)
+mul-if1 : tie.Need-mul-if1
+mul-if1 c = search needs
+
+shared-slice-copy-out-if1 : tie.Need-shared-slice-copy-out-if1
+shared-slice-copy-out-if1 c = search needs
 
 -- the cell as it is read
-abbrev read : tie.After-if22 → ℤ
-read c = getD (c .before .before .args .cells .now) (c .before .before .args .c) (pos 0)
+abbrev read : tie.After-if12 → ℤ
+read c = getD (c .before .args .cells .now) (c .before .args .c) (pos 0)
 
-read-is : (c : tie.After-if22) → read c ≡ getD (c .before .before .args .cells .now) (c .before .before .args .c) empty
-read-is c = getD-any (c .before .before .args .cells .now) (c .before .before .args .c) (pos 0) empty (c .before .if1 .left)
+read-is : (c : tie.After-if12) → read c ≡ getD (c .before .args .cells .now) (c .before .args .c) empty
+read-is c = getD-any (c .before .args .cells .now) (c .before .args .c) (pos 0) empty (c .before .pre)
+
+returns : tie.Need-returns
+returns c =
+    let e = bits-empty (read (c .before)) (sfits-of (c .before .if12 .given)) (c .if1 .taken) in
+    sym (ap oneIf (sym (read-is (c .before))) ∙ ap (λ (b : Bool). cond b 0 1) e)
 
 returns-2 : tie.Need-returns-2
 returns-2 c =
-    let e = bits-empty (read (c .before)) (sfits-of (c .before .if22 .given)) (c .if2 .taken) in
+    let e = bits-full (read (c .before)) (c .if1 .left) in
     sym (ap oneIf (sym (read-is (c .before))) ∙ ap (λ (b : Bool). cond b 0 1) e)
-
-returns-3 : tie.Need-returns-3
-returns-3 c =
-    let e = bits-full (read (c .before)) (c .if2 .left) in
-    sym (ap oneIf (sym (read-is (c .before))) ∙ ap (λ (b : Bool). cond b 0 1) e)
-
-mul-if2 : tie.Need-mul-if2
-mul-if2 c = search needs
-
-shared-slice-copy-out-if2 : tie.Need-shared-slice-copy-out-if2
-shared-slice-copy-out-if2 c = search needs
 
 pub label-bit-spec : {M : Type 1} → statement M
-label-bit-spec = tie.close (tie.spec returns mul-if2 shared-slice-copy-out-if2 returns-2 returns-3)
+label-bit-spec = tie.close (tie.spec mul-if1 shared-slice-copy-out-if1 returns returns-2)

@@ -1,7 +1,7 @@
 -- `open_steps::downward::blocks` meets its contract. The loop's invariant: `left` set cells are to be passed before `word`.
 -- Assumes nothing.
-use mathlib.Core.Path.{_≡_, ap}
-use Prim.Native.Nat.{ℕ, _+_, _*_, _-_, _≤_}
+use mathlib.Core.Path.{_≡_}
+use Prim.Native.Nat.{_+_, _*_, _-_, _≤_}
 use native.Mathlib.Omega.{arith}
 use Rattle.words.specs.Bits.{cell, tally}
 use Rattle.open_steps.proofs.downward.blocks.Statement.{statement}

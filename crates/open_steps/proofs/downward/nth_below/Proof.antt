@@ -1,10 +1,9 @@
 -- `open_steps::downward::nth_below` meets its contract: in the word of c, or before that word.
 -- Assumes nothing.
-use mathlib.Core.Path.{_≡_, ap, _∙_, subst}
-use Prim.Native.Nat.{ℕ, _+_, _*_, _-_, _/_, _%_, _≤_}
+use mathlib.Core.Path.{_≡_, ap, subst}
+use Prim.Native.Nat.{ℕ, _+_, _*_, _-_, _/_, _%_}
 use native.Mathlib.Omega.{arith}
 use borrow.Author.Needs.{needs}
-use lib.ListN.{getD}
 use Rattle.words.specs.Bits.{bit, cell, tally}
 use Rattle.words.proofs.Tally.{tally-mono}
 use Rattle.bitmaps.proofs.Words.{tally-word}

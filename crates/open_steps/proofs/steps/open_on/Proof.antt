@@ -1,29 +1,23 @@
 -- `open_steps::steps::open_on` meets its contract: in the turn of t, or by whole turns.
 -- Assumes nothing.
-use mathlib.Core.Path.{_≡_, refl, _∙_, sym, ap, subst}
-use Prim.Native.Nat.{ℕ, _+_, _*_, _-_, _^_, _≤_, _<_}
+use mathlib.Core.Path.{_≡_, _∙_, sym, ap, subst}
+use Prim.Native.Nat.{_+_, _*_, _-_}
 use native.Mathlib.Omega.{arith}
 use borrow.Author.Needs.{needs, sfits-of}
-use lib.IntN.{ℤ, pos, negsuc, natAbs, _+ℤ_, _-ℤ_, _*ℤ_}
-use lib.Signed.{_≤ℤ_}
-use lib.ListN.{length}
+use lib.IntN.{ℤ, pos, _+ℤ_, _*ℤ_}
 use mir.Facts.{toZ-ofZ}
-use mir.Syntax.{w64}
-use mir.Val.{SFits, ofZ, toZ}
 use Rattle.integers.specs.Parts.{up}
 use Rattle.integers.proofs.Linear.{ints, _∴_}
 use Rattle.integers.proofs.Machine.{plain}
-use Rattle.cursors.specs.Found.{Within}
 use Rattle.words.specs.Bits.{cell, tally}
-use Rattle.words.proofs.Tally.{tally-mono}
 use Rattle.open_map.specs.Maps.{Map, mapGiven}
-use Rattle.open_map.specs.Turns.{setBefore, turnedAt}
+use Rattle.open_map.specs.Turns.{setBefore}
 use Rattle.open_map.proofs.Given.{Given, given, turning, within}
-use Rattle.open_map.proofs.Numbers.{Placed, placed, cast-up}
+use Rattle.open_map.proofs.Numbers.{Placed, placed}
 use Rattle.open_map.proofs.Found.{set-below}
-use Rattle.open_steps.specs.Ranked.{NthFrom, NthBelow, instantAt, OpenFrom}
+use Rattle.open_steps.specs.Ranked.{NthFrom, instantAt, OpenFrom}
 use Rattle.open_steps.specs.declared.cells.Selected.the-variants.{At}
-use Rattle.open_steps.proofs.Found.{open-from, open-here, all-set}
+use Rattle.open_steps.proofs.Found.{open-here}
 use Rattle.open_steps.proofs.steps.open_on.Statement.{statement}
 use Rattle.open_steps.proofs.steps.open_on.Tie as tie
 

@@ -6,7 +6,6 @@ use native.Mathlib.Omega.{arith}
 use borrow.Author.Needs.{needs, sfits-of}
 use lib.IntN.{ℤ, pos, negsuc, natAbs, _+ℤ_, _-ℤ_, _*ℤ_}
 use lib.Signed.{_≤ℤ_}
-use lib.ListN.{length}
 use mir.Facts.{toZ-ofZ}
 use mir.Syntax.{w64}
 use mir.Val.{SFits, ofZ, toZ}
@@ -15,14 +14,13 @@ use Rattle.integers.proofs.Linear.{ints, _∴_}
 use Rattle.integers.proofs.Machine.{plain}
 use Rattle.cursors.specs.Found.{Within}
 use Rattle.words.specs.Bits.{cell, tally}
-use Rattle.words.proofs.Tally.{tally-mono}
 use Rattle.open_map.specs.Maps.{Map, mapGiven}
 use Rattle.open_map.specs.Turns.{setBefore, turnedAt}
-use Rattle.open_map.proofs.Given.{Given, given, turning, within}
+use Rattle.open_map.proofs.Given.{Given, given, turning}
 use Rattle.open_map.proofs.Numbers.{Placed, placed, cast-up}
 use Rattle.open_map.proofs.Found.{set-below}
-use Rattle.open_steps.specs.Ranked.{Nth, NthBelow, instantAt, OpenFrom}
-use Rattle.open_steps.proofs.Found.{open-from, open-here, all-set}
+use Rattle.open_steps.specs.Ranked.{instantAt, OpenFrom}
+use Rattle.open_steps.proofs.Found.{open-from}
 use Rattle.open_steps.proofs.steps.turns_back.Statement.{statement}
 use Rattle.open_steps.proofs.steps.turns_back.Tie as tie
 

@@ -3,13 +3,12 @@
 use mathlib.Core.Path.{_≡_, refl, _∙_, sym, ap, subst}
 use Prim.Native.Nat.{ℕ, _+_, _*_, _-_, _^_, _≤_, _<_}
 use native.Mathlib.Omega.{arith}
-use borrow.Author.Needs.{needs, sfits-of}
-use lib.IntN.{ℤ, pos, negsuc, natAbs, _+ℤ_, _-ℤ_, _*ℤ_}
-use lib.Signed.{_≤ℤ_}
+use borrow.Author.Needs.{sfits-of}
+use lib.IntN.{ℤ, pos, _+ℤ_, _*ℤ_}
 use lib.ListN.{length}
 use mir.Facts.{toZ-ofZ}
 use mir.Syntax.{w64}
-use mir.Val.{SFits, ofZ, toZ}
+use mir.Val.{SFits}
 use Rattle.integers.specs.Parts.{up}
 use Rattle.integers.proofs.Linear.{ints, _∴_}
 use Rattle.integers.proofs.Machine.{plain}
@@ -19,10 +18,10 @@ use Rattle.words.proofs.Tally.{tally-mono}
 use Rattle.open_map.specs.Maps.{Map, mapGiven}
 use Rattle.open_map.specs.Turns.{setBefore, turnedAt}
 use Rattle.open_map.proofs.Given.{Given, given, turning, within}
-use Rattle.open_map.proofs.Numbers.{Placed, placed, cast-up}
+use Rattle.open_map.proofs.Numbers.{Placed, placed}
 use Rattle.open_map.proofs.Found.{set-below}
-use Rattle.open_steps.specs.Ranked.{NthFrom, NthBelow, instantAt, OpenFrom}
-use Rattle.open_steps.proofs.Found.{open-from, open-here, all-set}
+use Rattle.open_steps.specs.Ranked.{instantAt, OpenFrom}
+use Rattle.open_steps.proofs.Found.{open-from, all-set}
 use Rattle.open_steps.proofs.steps.turns_on.Statement.{statement}
 use Rattle.open_steps.proofs.steps.turns_on.Tie as tie
 

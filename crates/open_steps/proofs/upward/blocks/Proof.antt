@@ -1,11 +1,10 @@
 -- `open_steps::upward::blocks` meets its contract. The loop's invariant: `left` set cells are to be passed from `word` on.
 -- Assumes nothing.
 use mathlib.Core.Path.{_≡_}
-use Prim.Native.Nat.{ℕ, _+_, _*_, _-_, _≤_}
+use Prim.Native.Nat.{_+_, _*_, _-_, _≤_}
 use native.Mathlib.Omega.{arith}
 use lib.ListN.{length}
 use Rattle.words.specs.Bits.{cell, tally}
-use Rattle.open_steps.specs.Ranked.{PassedUp}
 use Rattle.open_steps.proofs.upward.blocks.Statement.{statement}
 use Rattle.open_steps.proofs.upward.blocks.Tie as tie
 

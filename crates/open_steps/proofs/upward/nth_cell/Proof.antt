@@ -1,14 +1,14 @@
 -- `open_steps::upward::nth_cell` meets its contract: there are enough set cells.
 -- Assumes nothing.
-use mathlib.Core.Path.{_≡_, ap, _∙_, subst}
-use Prim.Native.Nat.{ℕ, zero, suc, _+_, _*_, _<_}
+use mathlib.Core.Path.{subst}
+use Prim.Native.Nat.{ℕ, zero, suc, _*_, _<_}
 use native.Mathlib.Omega.{arith}
 use borrow.Author.Needs.{needs}
 use mathlib.Core.List.{List}
 use lib.ListN.{length}
 use Rattle.words.specs.Bits.{cell, tally}
 use Rattle.words.proofs.Tally.{tally-zero}
-use Rattle.open_steps.specs.Ranked.{Nth, NthFrom}
+use Rattle.open_steps.specs.Ranked.{NthFrom}
 use Rattle.open_steps.proofs.upward.nth_cell.Statement.{statement}
 use Rattle.open_steps.proofs.upward.nth_cell.Tie as tie
 
