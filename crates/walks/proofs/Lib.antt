@@ -1,4 +1,5 @@
 -- The conversion in steps.
+--     Examples     case 12 in steps, and what a caller may change, by computation
 --     Kept         an answered row is least, and means what the algebra says
 --     Came         what a call may come to
 --     Calls        a refusal, and an entry that is taken
@@ -8,6 +9,7 @@
 --     Steps        lists left alone: the conversion of these entries
 --     Done         when such a walk is done
 --     Answered     such a walk is an answered table
+pub mod Examples
 pub mod Kept
 pub mod Came
 pub mod Calls
