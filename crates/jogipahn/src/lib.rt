@@ -111,6 +111,9 @@ pub use steps::step as step_walk;
 pub use checking::check;
 pub use verdicts::Verdict;
 
+// The same with a record for each heading.
+pub use heading_records::check as check_records;
+
 // sheet(text, out): a table's text, a line for each entry, to its sheet, a line for each row or one for a refusal (19 for a
 // text that breaks the rules), in a lent list with zeros behind it. Bytes(n) says how long the sheet is; TooShort, that
 // the list, then all zero, does not hold it. SHEET_LIMIT bytes hold any.
