@@ -5,9 +5,8 @@ ghost use Prim.Native.Nat.{_^_, _≤_};
 ghost use lib.IntN.{pos, _+ℤ_, _-ℤ_, _*ℤ_};
 ghost use Rattle.integers.specs.Parts.{up};
 ghost use Rattle.cursors.specs.Found.{Within};
-ghost use Rattle.words.specs.Bits.{cell};
 ghost use Rattle.open_map.specs.Maps.{mapGiven};
-ghost use Rattle.open_map.specs.Turns.{Sound, Turning, turnedAt, setBefore, rank, risenOver};
+ghost use Rattle.open_map.specs.Turns.{Sound, Turning, turnedAt, rank, risenOver};
 
 // An instant: which turn of the row it is in, and its cell.
 pub struct Turned {
@@ -35,14 +34,6 @@ pub fn composed(size: i64, turn: i64, rest: usize) -> i64
     ensures { λ r. ⌜ r ≡ size *ℤ turn +ℤ pos rest ⌝ }
 {
     size * turn + rest as i64
-}
-
-// How many cells of a map are set.
-pub fn set_cells(words: &[u64], period: i64) -> i64
-    requires { ⌜ Sound period (now words) ⌝ }
-    ensures { λ r. ⌜ r ≡ pos (setBefore (mapGiven period (now (words .entry))) (up period)) ⌝ }
-{
-    bitmaps::ones_before(words, period as usize) as i64
 }
 
 // How far the rank rises over so many turns, from the cell a to the cell c, which is not before it. The cells outside
