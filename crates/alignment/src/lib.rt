@@ -1,5 +1,7 @@
 // Check 9, how two operands lie to each other, in one pass over their span.
 
+#![tactic(auto)]
+
 ghost use Rattle.std.specs.Prelude.{◌≡◌, true, ◌*ℤ◌};
 ghost use Rattle.calendar.specs.Operation.Alignment.{partition};
 ghost use Rattle.calendar.specs.Lists.{equal};
@@ -18,7 +20,7 @@ mod comparing;
 mod single;
 
 // How a and b may have to lie to each other: in any way, as alter asks, as anchor asks, as the set operations ask.
-#[derive(Drop)]
+#[derive(Clone, Copy)]
 pub enum Alignment {
     Free,
     Partition,

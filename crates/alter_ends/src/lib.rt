@@ -1,5 +1,7 @@
 // Check 11 of an altering, before its labels are looked at one by one: labels never fall, so the first one of the working row and the last decide.
 
+#![tactic(auto)]
+
 ghost use Rattle.std.specs.Prelude.{◌≡◌, pos};
 ghost use Rattle.integers.specs.Parts.{up};
 ghost use Rattle.calendar.specs.Checks.{labels_in_range};
@@ -17,7 +19,7 @@ use kinds::{Alteration, Operand};
 use sizes::Turn;
 
 // The first label of a working row, and the last.
-#[derive(Drop)]
+#[derive(Clone, Copy)]
 pub struct Ends {
     pub first: i64,
     pub last: i64,

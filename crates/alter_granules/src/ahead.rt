@@ -13,7 +13,7 @@ use super::coarse::Begin;
 use kinds::Alteration;
 
 // Where the walk is.
-#[derive(Drop)]
+#[derive(Clone, Copy)]
 pub struct Walk {
     // The altered granule at hand, and the first fine granule of the next one.
     pub label: i64,

@@ -11,7 +11,7 @@ ghost use Rattle.alter_granules.specs.Follows.{at_least, Seeks};
 use cursors::{Cursor, Found};
 
 // An instant, with its cursor in a.
-#[derive(Drop)]
+#[derive(Clone, Copy)]
 pub struct Instant {
     pub index: usize,
     pub cursor: Cursor,

@@ -11,7 +11,7 @@ ghost use Rattle.alter_granules.specs.CoarseBegins.{at, CoarseBegins};
 use cursors::Cursor;
 
 // Where b's granule i begins, with the label p of a there: the first granule of a in it.
-#[derive(Drop)]
+#[derive(Clone, Copy)]
 pub struct Begin {
     pub i: i64,
     pub p: i64,

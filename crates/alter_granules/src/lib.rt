@@ -1,5 +1,7 @@
 // Alter, document 01's kind 3: a is the fine operand and b the coarse one.
 
+#![tactic(auto)]
+
 ghost use Rattle.std.specs.Prelude.{◌≡◌};
 ghost use Rattle.integers.specs.Parts.{up};
 ghost use Rattle.calendar.specs.Operation.Operation.{binary};
@@ -21,7 +23,7 @@ mod emptying;
 pub mod origin;
 
 // After how many coarse granules the altering repeats, and by how many fine ones: document 01's n and D.
-#[derive(Drop)]
+#[derive(Clone, Copy)]
 pub struct Repeat {
     pub coarse: i64,
     pub fine: i64,
@@ -29,7 +31,7 @@ pub struct Repeat {
 
 // Where a scan is among the altered granules: fine granules are found by a walk over b until the altering has gone round once, and from then on
 // by the labels written before.
-#[derive(Drop)]
+#[derive(Clone, Copy)]
 pub struct Altered {
     pub walk: Walk,
     pub behind: Instant,

@@ -17,7 +17,7 @@ use kinds::Alteration;
 use row_check::scan;
 
 // A labelled instant, with its label.
-#[derive(Drop)]
+#[derive(Clone, Copy)]
 pub struct Labelled {
     pub t: i64,
     pub j: i64,

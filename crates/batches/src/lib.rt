@@ -6,6 +6,8 @@
 // one of the lent lists is shorter than the list of questions it is refused with 17, and all of them are zero. Behind
 // the answers a longer list is zero.
 
+#![tactic(auto)]
+
 pub mod instants;
 pub mod lateness;
 pub mod slots;

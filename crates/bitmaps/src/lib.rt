@@ -1,5 +1,7 @@
 // Lists of words of 64 bits: how many cells are set, and which, by whole words.
 
+#![tactic(auto)]
+
 ghost use Rattle.std.specs.Prelude.{◌≡◌, ◌+◌, ◌*◌, ◌^◌, ◌≤◌, ◌<◌, length, get_or};
 ghost use Rattle.words.specs.Bits.{cell, tally};
 ghost use Rattle.words.specs.Places.{Clear};
@@ -10,7 +12,7 @@ ghost use Rattle.bitmaps.specs.Cells.{Few, Within, FirstWord, LastWord, FirstFro
 pub const BLOCK: usize = 16;
 
 // A cell, where there is one.
-#[derive(Drop)]
+#[derive(Clone, Copy)]
 pub enum Place {
     At(usize),
     Nowhere,

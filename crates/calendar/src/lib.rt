@@ -1,5 +1,7 @@
 // The calendar type with its constants, and the refusals by name.
 
+#![tactic(auto)]
+
 ghost use Rattle.std.specs.Prelude.{◌≡◌};
 ghost use Rattle.calendar.specs.Meaning.{empty, bottom_row};
 ghost use Rattle.calendar.specs.Limits.{in_range};
@@ -17,7 +19,7 @@ pub const LONGEST_PERIOD: i64 = POOL_LIMIT as i64;
 pub const LATE_LIMIT: i64 = 1048576;
 
 // A calendar whose row has one cell: its period, its distance and the row.
-#[derive(Drop)]
+#[derive(Clone, Copy)]
 pub struct Calendar {
     pub period: i64,
     pub distance: i64,
@@ -64,7 +66,7 @@ impl Calendar {
 }
 
 // Why a table, an entry, a row or a question is refused: a name for each of the numbers 1 to 20.
-#[derive(Drop)]
+#[derive(Clone, Copy)]
 pub enum Refusal {
     TableLength,
     TooFewHeadings,

@@ -1,6 +1,8 @@
 // A caller of the core. It converts a table with heading records and with plain numbers, and asks each question, the
 // first one by a reader too (asking.rt). Its code names `jogipahn` alone, beside what prints.
 
+#![tactic(auto)]
+
 ghost use Rattle.std.specs.Prelude.{◌≡◌};
 ghost use Rattle.calendar.specs.Questions.{given, up_from_instant};
 ghost use Rattle.questions.specs.Answers.{placed_reply};
@@ -22,7 +24,7 @@ const TABLE: [i32; 30] = [
 ];
 
 // What a conversion leaves in its headings, beside its answer.
-#[derive(Drop)]
+#[derive(Clone, Copy)]
 struct Converted {
     answer: Conversion,
     headings: [Heading; ENTRIES],

@@ -13,7 +13,7 @@ use cursors::Cursor;
 
 // What an instant says of the granules in question: none shows that was not looked at, one shows that is not in question, the next one
 // shows, or b's granule is over.
-#[derive(Drop)]
+#[derive(Clone, Copy)]
 pub enum Candidate {
     Nothing,
     Passed(i64),

@@ -12,7 +12,7 @@ ghost use Rattle.cursors.specs.Cursor.{cursor_at};
 use cursors::Cursor;
 
 // An instant, with its cursors in the granule's row and in the other one.
-#[derive(Drop)]
+#[derive(Clone, Copy)]
 pub struct Instant {
     pub at: i64,
     pub own: Cursor,

@@ -1,5 +1,7 @@
 // The granules of a in question for one granule of b, counted along a walk over it: those inside it, or those that meet it.
 
+#![tactic(auto)]
+
 ghost use Rattle.std.specs.Prelude.{◌≡◌, List, [], ◌∷◌, ◌++◌, ◌^◌, ℤ, pos, ◌≤ℤ◌, ◌<ℤ◌, length};
 ghost use Rattle.calendar.specs.Questions.{given};
 ghost use Rattle.cursors.specs.Found.{Sound};
@@ -14,7 +16,7 @@ mod candidate;
 pub mod ends;
 
 // How many granules are in question; of those at the positions asked for the least and the greatest, or 1 and 0 where there are none.
-#[derive(Drop)]
+#[derive(Clone, Copy)]
 pub struct Tally {
     pub count: i64,
     pub low: i64,

@@ -1,5 +1,7 @@
 // The check of finished lists in plain numbers, as C takes it: `jogipahn` hands it on under its name for C.
 
+#![tactic(auto)]
+
 ghost use Rattle.std.specs.Prelude.{◌≡◌};
 ghost use Rattle.verdicts.specs.Check as Check;
 ghost use Rattle.check_api.specs.Codes.{verdict_code};

@@ -27,7 +27,7 @@ use row_entry::HEADING_LENGTH;
 use standing::Stood;
 
 // What the check of an entry comes to: a refusal, its heading or its row is wrong, or its row ends before that cell.
-#[derive(Drop)]
+#[derive(Clone, Copy)]
 pub enum Judged {
     Refused(Refusal),
     Wrong,

@@ -1,5 +1,7 @@
 // The check of finished headings and rows, whoever made them: they are compared, entry by entry, with what a conversion would leave, and nothing is written.
 
+#![tactic(auto)]
+
 ghost use Rattle.std.specs.Prelude.{◌≡◌, ◌&&◌, [], ◌*◌, ◌≤◌, drop};
 ghost use Rattle.calendar.specs.Limits.{entry_limit, heading_length};
 ghost use Rattle.standing.specs.Tests.{all_zero, all_empty};

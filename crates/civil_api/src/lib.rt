@@ -1,5 +1,7 @@
 // The civil calendar in plain numbers, as C takes it: `jogipahn` hands each function on under its name for C.
 
+#![tactic(auto)]
+
 ghost use Rattle.std.specs.Prelude.{◌≡◌, pos, length, get_or};
 ghost use Rattle.civil.specs.Instants.{instant_reply};
 ghost use Rattle.civil.specs.Asked.{date_reply};

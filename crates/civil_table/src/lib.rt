@@ -1,5 +1,7 @@
 // The civil calendar's table, for a conversion: months are entry 9, years entry 10. Its rows take 332,046 cells.
 
+#![tactic(auto)]
+
 ghost use Rattle.std.specs.Prelude.{◌≡◌};
 ghost use Rattle.civil.specs.Table.{civil_table};
 

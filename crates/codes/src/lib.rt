@@ -1,5 +1,7 @@
 // Refusals as numbers for C.
 
+#![tactic(auto)]
+
 ghost use Rattle.std.specs.Prelude.{◌≡◌};
 ghost use Rattle.calendar.specs.Refusals.{number_of};
 ghost use Rattle.codes.specs.Codes.{refusal_code};

@@ -1,5 +1,7 @@
 // Walks over the granules of two rows side by side: whether a granule of one lies in a granule of the other.
 
+#![tactic(auto)]
+
 ghost use Rattle.std.specs.Prelude.{◌≡◌, ℤ};
 ghost use Rattle.std.proofs.Math.Option.{some};
 ghost use Rattle.calendar.specs.Meaning.{meant};
@@ -16,7 +18,7 @@ use cursors::{Cursor, Found};
 pub mod seen;
 
 // The cursors of two rows at one instant, the place of a walk that sees whether the granule k of b lies in the granule i of a.
-#[derive(Drop)]
+#[derive(Clone, Copy)]
 pub struct CursorPair {
     pub b: Cursor,
     pub k: i64,
@@ -25,7 +27,7 @@ pub struct CursorPair {
 }
 
 // What an instant says to such a walk.
-#[derive(Drop)]
+#[derive(Clone, Copy)]
 enum Step {
     // Go on: it is in both granules, or has no label in b.
     On,

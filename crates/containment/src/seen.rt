@@ -9,7 +9,7 @@ ghost use Rattle.containment.specs.Seen.{SeenAt};
 use cursors::{Cursor, Found};
 
 // What an instant says of a's granule j.
-#[derive(Drop)]
+#[derive(Clone, Copy)]
 pub enum Seen {
     // It has no label in a.
     Off,

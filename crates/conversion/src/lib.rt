@@ -1,5 +1,7 @@
 // The conversion of a table: each entry's least row into the pool, one behind the other, with a heading of four numbers.
 
+#![tactic(auto)]
+
 ghost use Rattle.std.specs.Prelude.{◌≡◌, List, [], ◌++◌, ◌-◌, ◌≤◌, length, take, replicate};
 ghost use Rattle.calendar.specs.Meaning.{Row, empty};
 ghost use Rattle.calendar.specs.Outcome.{entries};
@@ -18,7 +20,7 @@ pub use row_entry::HEADING_LENGTH;
 pub use row_entry::Appended;
 
 // What converting a table comes to: a refusal, by its number and its entry (0 for 1 to 3), or rows and headings stand in the lists.
-#[derive(Drop)]
+#[derive(Clone, Copy)]
 pub enum Conversion {
     Refused(u32, u32),
     Converted,

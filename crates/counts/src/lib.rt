@@ -1,5 +1,7 @@
 // How many granules and how many labelled instants a turn of a row has.
 
+#![tactic(auto)]
+
 ghost use Rattle.std.specs.Prelude.{◌≡◌, true, pos, ◌+◌, ◌-◌, ◌<◌, ◌≤◌, length, get_or, drop};
 ghost use Rattle.calendar.specs.Meaning.{empty};
 ghost use Rattle.calendar.specs.Granules as G;
@@ -15,14 +17,14 @@ use calendar::Calendar;
 use row_check::scan;
 
 // The labels of a row: how many different ones there are, and the last.
-#[derive(Drop)]
+#[derive(Clone, Copy)]
 struct Labels {
     count: i64,
     last: i64,
 }
 
 // Four parts of a row: how many labels are counted, and the greatest of each part so far.
-#[derive(Drop)]
+#[derive(Clone, Copy)]
 struct Tops {
     count: usize,
     a: i32,

@@ -1,5 +1,7 @@
 // A row in a slice with its period and distance: cursors, which step from instant to instant, and the labels of instants.
 
+#![tactic(auto)]
+
 ghost use Rattle.std.specs.Prelude.{◌≡◌, ℤ, pos, ◌+ℤ◌, ◌-ℤ◌, get_or};
 ghost use Rattle.std.proofs.Math.Option.{some};
 ghost use Rattle.integers.specs.Parts.{up};
@@ -12,7 +14,7 @@ ghost use Rattle.cursors.specs.Direction.{stepped};
 use calendar::Calendar;
 
 // A label or an instant, where there is one.
-#[derive(Drop)]
+#[derive(Clone, Copy)]
 pub enum Found {
     At(i64),
     Nothing,
@@ -20,7 +22,7 @@ pub enum Found {
 
 // An instant of a row, by its cell and by how far the labels of its turn are above those of the first turn. With it a step to the
 // next instant or back takes no division.
-#[derive(Drop)]
+#[derive(Clone, Copy)]
 pub struct Cursor {
     pub index: i64,
     pub rise: i64,

@@ -1,6 +1,8 @@
 // The date of an instant, and the instant of a date. Nothing is asked of the caller of `date_of` and `instant_of`:
 // any numbers have an answer or one numbered refusal.
 
+#![tactic(auto)]
+
 ghost use Rattle.std.specs.Prelude.{◌≡◌, ◌≤◌, ◌<◌, pos, ◌+ℤ◌, ◌<ℤ◌};
 ghost use Rattle.integers.specs.Parts.{up};
 ghost use Rattle.calendar.specs.Limits.{between};
@@ -12,20 +14,20 @@ ghost use Rattle.dates.specs.Places.{Near, Around, NearDate, InYear, too_many, t
 
 use calendar::{Calendar, Refusal};
 
-#[derive(Drop)]
+#[derive(Clone, Copy)]
 pub struct Date {
     pub year: i64,
     pub month: u32,
     pub day: u32,
 }
 
-#[derive(Drop)]
+#[derive(Clone, Copy)]
 pub enum Dated {
     On(Date),
     Refused(Refusal),
 }
 
-#[derive(Drop)]
+#[derive(Clone, Copy)]
 pub enum Instant {
     At(i64),
     Refused(Refusal),

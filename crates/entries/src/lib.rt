@@ -1,5 +1,7 @@
 // The six numbers of a table's entry, the checks that need no row (1 to 3 for the table, 4 to 6 for an entry), and what an entry names.
 
+#![tactic(auto)]
+
 ghost use Rattle.std.specs.Prelude.{◌≡◌, ◌&&◌, ◌+◌, ◌*◌, ◌<◌, length};
 ghost use Rattle.calendar.specs.Limits as Limits;
 ghost use Rattle.calendar.specs.Table as Table;
@@ -23,7 +25,7 @@ const OPERAND_COUNTS: [u32; 13] = [0, 1, 1, 2, 2, 2, 2, 2, 2, 2, 2, 2, 1];
 // The limit of x, y and z, but for labels.
 const MILLION: i32 = 1000000;
 
-#[derive(Drop)]
+#[derive(Clone, Copy)]
 pub struct Entry {
     pub kind: i32,
     pub first: i32,
@@ -149,7 +151,7 @@ fn others_zero(count: u32, e: Entry) -> bool
 }
 
 // An operation over the rows of earlier entries: its kind and its operands. A kind that names fewer than two is given the first one twice.
-#[derive(Drop)]
+#[derive(Clone, Copy)]
 pub struct Named {
     pub kind: Kind,
     pub first: usize,
@@ -157,7 +159,7 @@ pub struct Named {
 }
 
 // What checks 4, 5 and 6 come to: a refusal, or what the entry names.
-#[derive(Drop)]
+#[derive(Clone, Copy)]
 pub enum Reading {
     Refused(Refusal),
     Named(Named),
@@ -183,7 +185,7 @@ pub fn read(e: Entry, before: usize) -> Reading
 }
 
 // What checks 1, 2 and 3 come to: a refusal, or how many entries the table has.
-#[derive(Drop)]
+#[derive(Clone, Copy)]
 pub enum Begun {
     Refused(Refusal),
     Entries(usize),

@@ -1,5 +1,7 @@
 // The working row of any kind, filled in behind the rows that stand in the pool already.
 
+#![tactic(auto)]
+
 ghost use Rattle.kinds.specs.Stands.{row_in};
 ghost use Rattle.fill_shared.specs.Fillable.{Fillable};
 ghost use Rattle.fill_shared.specs.Placed.{Placed, over, Fills};

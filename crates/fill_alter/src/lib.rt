@@ -1,5 +1,7 @@
 // Alter: each fine label gets the altered granule that has it.
 
+#![tactic(auto)]
+
 ghost use Rattle.std.specs.Prelude.{◌≡◌, ◌+◌, pos};
 ghost use Rattle.calendar.specs.Operation.{map_operation};
 ghost use Rattle.calendar.specs.Questions.{given};

@@ -79,7 +79,7 @@ fn start_among(pick: Pick, n: i64) -> i64
 }
 
 // The labels of the instants at the positions that Pick takes, of n instants from v on: from low to high, among all labels.
-#[derive(Drop)]
+#[derive(Clone, Copy)]
 struct Taken {
     low: i32,
     high: i32,

@@ -1,5 +1,7 @@
 // Anchor and the set operations: the two labels of an instant and the last label of b decide its label.
 
+#![tactic(auto)]
+
 ghost use Rattle.std.specs.Prelude.{◌≡◌, cond, ◌+◌, ltb, pos, ◌+ℤ◌, ◌<ℤ◌, get_or};
 ghost use Rattle.calendar.specs.Limits.{pool_limit};
 ghost use Rattle.calendar.specs.Compute.{result};
@@ -25,14 +27,14 @@ mod beside;
 mod piecewise;
 
 // The kinds whose labels are decided instant by instant.
-#[derive(Drop)]
+#[derive(Clone, Copy)]
 pub enum Pointwise {
     Anchor,
     ByLabels(SetOperation),
 }
 
 // What the loop carries: the cursors of the instant, and the last label of b before it.
-#[derive(Drop)]
+#[derive(Clone, Copy)]
 pub struct Scanning {
     pub a: Cursor,
     pub b: Cursor,
@@ -40,7 +42,7 @@ pub struct Scanning {
 }
 
 // The label of an instant, and the state before the next one.
-#[derive(Drop)]
+#[derive(Clone, Copy)]
 pub struct Stepped {
     pub label: Found,
     pub next: Scanning,

@@ -11,7 +11,7 @@ use kinds::SetOperation;
 use pieces::{Place, is_outside, raised};
 
 // How many instants have a label, and how many of the labels are outside the limits.
-#[derive(Drop)]
+#[derive(Clone, Copy)]
 pub struct Counts {
     pub labelled: u32,
     pub outside: u32,

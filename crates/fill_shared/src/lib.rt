@@ -1,5 +1,7 @@
 // What the loops share that fill the working row of an operation in, behind the rows that stand in the pool already.
 
+#![tactic(auto)]
+
 ghost use Rattle.std.specs.Prelude.{◌≡◌, true, false, cond, ◌||◌, ◌&&◌, ◌+◌, ◌≤◌, ◌<◌, pos, negsuc, ◌≤ℤ◌, length, set};
 ghost use Rattle.std.specs.Int.Signed.{le_z};
 ghost use Rattle.calendar.specs.Lists.{is_some, if_label};
@@ -15,7 +17,7 @@ use cursors::Found;
 use kinds::Operand;
 
 // What the labels of a working row are.
-#[derive(Drop)]
+#[derive(Clone, Copy)]
 pub enum Filled {
     Labelled,
     Unlabelled,
@@ -23,7 +25,7 @@ pub enum Filled {
 }
 
 // The number that the labels from low to high all get.
-#[derive(Drop)]
+#[derive(Clone, Copy)]
 pub struct Known {
     pub number: i64,
     pub low: i64,

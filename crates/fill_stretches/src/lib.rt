@@ -1,5 +1,7 @@
 // A stretch of a working row: the instants up to a label of a row, which all get one cell, but for those with no label.
 
+#![tactic(auto)]
+
 ghost use Rattle.std.specs.Prelude.{◌≡◌, true, ◌-◌, ◌≤◌, pos, length};
 ghost use Rattle.calendar.specs.Lists.{if_label};
 ghost use Rattle.calendar.specs.Compute.{cell_of};
@@ -14,7 +16,7 @@ use cursors::{Cursor, Found};
 const BELOW_LABELS: i64 = -9223372036854775807;
 
 // How far a working row is filled: the next instant, with its cursor in the row that is followed.
-#[derive(Drop)]
+#[derive(Clone, Copy)]
 pub struct Reached {
     pub t: usize,
     pub cursor: Cursor,

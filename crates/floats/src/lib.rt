@@ -1,5 +1,7 @@
 // Figures and lateness as binary64 numbers.
 
+#![tactic(auto)]
+
 ghost use Rattle.std.specs.Prelude.{◌≡◌, true, false, ◌≤◌, leb};
 ghost use Rattle.std.specs.Float.Ieee.Exact.{HasValue};
 ghost use Rattle.std.specs.Float.Ieee.Positive.{num, den};
@@ -10,7 +12,7 @@ ghost use Rattle.floats.specs.Parts.{WholeParts};
 
 // The figures of a row: the part of its instants that is labelled (the open part), and the mean length and the mean spacing of its
 // granules (slots).
-#[derive(Drop)]
+#[derive(Clone, Copy)]
 pub struct Figures {
     pub openness: f64,
     pub mean_length: f64,
@@ -38,7 +40,7 @@ pub fn figures_of(labelled: u64, period: u64, granules: u64) -> Figures
 }
 
 // How late a delivery may be: by a fixed number of instants, or by a share of the granule's length.
-#[derive(Drop)]
+#[derive(Clone, Copy)]
 pub enum Allowance {
     Fixed(f64),
     Share(f64),

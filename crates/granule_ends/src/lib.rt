@@ -1,5 +1,7 @@
 // The first and the last instant of a granule, and an instant's place in it, each by a walk with a cursor.
 
+#![tactic(auto)]
+
 ghost use Rattle.std.specs.Prelude.{◌≡◌, ℤ};
 ghost use Rattle.std.proofs.Math.Option.{some};
 ghost use Rattle.calendar.specs.Meaning.{meant};

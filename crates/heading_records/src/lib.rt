@@ -1,5 +1,7 @@
 // The check of finished lists with a record for each heading.
 
+#![tactic(auto)]
+
 ghost use Rattle.std.specs.Prelude.{◌≡◌, ◌*◌, ◌/◌, length, take};
 ghost use Rattle.calendar.specs.Limits.{heading_length};
 ghost use Rattle.headings.specs.Records.{numbers_of};
@@ -13,7 +15,7 @@ use row_entry::HEADING_LENGTH;
 use verdicts::Verdict;
 
 // Headings by value: four numbers for each entry that a table may have, and whether all further headings are zero.
-#[derive(Drop)]
+#[derive(Clone, Copy)]
 pub struct Read {
     pub numbers: [u32; HEADING_LENGTH * ENTRY_LIMIT],
     pub zero: bool,

@@ -1,5 +1,7 @@
 // The conversion of a table with a record for each heading.
 
+#![tactic(auto)]
+
 ghost use Rattle.std.specs.Prelude.{◌≡◌, ◌*◌, length};
 ghost use Rattle.calendar.specs.Limits.{entry_limit, heading_length};
 ghost use Rattle.calendar.specs.Outcome.{outcome};
@@ -11,7 +13,7 @@ use calendar::ENTRY_LIMIT;
 use conversion::{Conversion, HEADING_LENGTH};
 
 // The heading of an entry: where its row starts in the pool, its period and distance, and its granules per period.
-#[derive(Drop)]
+#[derive(Clone, Copy)]
 pub struct Heading {
     pub start: u32,
     pub period: u32,
@@ -20,7 +22,7 @@ pub struct Heading {
 }
 
 // A conversion by value: its answer, and four numbers for each entry that a table may have.
-#[derive(Drop)]
+#[derive(Clone, Copy)]
 struct Made {
     answer: Conversion,
     plain: [u32; HEADING_LENGTH * ENTRY_LIMIT],

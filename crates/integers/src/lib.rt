@@ -1,6 +1,8 @@
 // Division and remainder by a positive number, rounded down and up; the greatest common divisor; products and least
 // common multiples up to a cap.
 
+#![tactic(auto)]
+
 ghost use Rattle.std.specs.Prelude.{◌≡◌, ◌*◌, pos, ◌<ℤ◌};
 ghost use Rattle.integers.specs.Parts.{up};
 ghost use Rattle.integers.specs.Floor.{floor_div, floor_mod, ceil_div};
@@ -49,7 +51,7 @@ pub fn gcd(a: u64, b: u64) -> u64
 }
 
 // A number that is at most a cap, or the word that it is past it.
-#[derive(Drop)]
+#[derive(Clone, Copy)]
 pub enum Capped {
     Within(u64),
     TooLong,

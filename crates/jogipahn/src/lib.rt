@@ -42,6 +42,8 @@
 //     verdicts     Verdict
 // A value that is only handed on, as a refusal within an answer, needs none. `crates/caller` is such a program.
 
+#![tactic(auto)]
+
 // The most entries of a table, the most cells of a pool or a row, and the greatest lateness that may be asked about.
 pub use calendar::{ENTRY_LIMIT, LATE_LIMIT, POOL_LIMIT};
 

@@ -1,5 +1,7 @@
 // A journal of tables as text: records one behind the other, each a table's text and a trailer that points back to it.
 
+#![tactic(auto)]
+
 mod opened;
 mod records;
 mod search;

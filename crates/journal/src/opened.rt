@@ -9,7 +9,7 @@ use crate::search::{Found, last_trailer};
 const OVERLAP: usize = 5;
 
 // Where the last table's text starts and how many bytes it has, or that there is none.
-#[derive(Drop)]
+#[derive(Clone, Copy)]
 pub enum Opened {
     Body(usize, usize),
     Empty,
@@ -17,7 +17,7 @@ pub enum Opened {
 
 // What a window says of the file: where the last table's text starts and how many bytes it has, where the next window
 // ends, or that there is none.
-#[derive(Drop)]
+#[derive(Clone, Copy)]
 pub enum Step {
     Body(usize, usize),
     Before(usize),

@@ -17,7 +17,7 @@ pub const RECORD_LIMIT: usize = 4102;
 
 // What an append writes: how many bytes of the lent list; or the line for which the text is refused with 19; or that
 // the list is too short.
-#[derive(Drop)]
+#[derive(Clone, Copy)]
 pub enum Recorded {
     Bytes(usize),
     Refused(u32),

@@ -1,5 +1,7 @@
 // A journal in plain numbers, as C takes it: `jogipahn` hands each function on under its name for C.
 
+#![tactic(auto)]
+
 ghost use Rattle.std.specs.Prelude.{◌≡◌, ◌+◌, ◌*◌, length};
 ghost use Rattle.calendar.specs.Lists.{filled};
 ghost use Rattle.table_text.specs.Text.{bad_text};

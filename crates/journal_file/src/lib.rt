@@ -1,5 +1,7 @@
 // A journal in a file. What goes wrong with the file is told on standard error.
 
+#![tactic(auto)]
+
 ghost use Rattle.std.specs.Prelude.{◌≤◌, ◌<◌, ◌^◌};
 ghost use Rattle.table_text.specs.Text.{text_limit};
 

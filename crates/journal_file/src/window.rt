@@ -11,7 +11,7 @@ const WINDOW: usize = 7;
 
 // What a look into a window comes to: where the last table's text starts and how many bytes it has, where the next
 // window ends, that there is none, or that the file could not be read.
-#[derive(Drop)]
+#[derive(Clone, Copy)]
 enum Sight {
     Body(usize, usize),
     Before(usize),
@@ -20,7 +20,7 @@ enum Sight {
 }
 
 // Where the last table's text starts and how many bytes it has; that there is none; or that the file could not be read.
-#[derive(Drop)]
+#[derive(Clone, Copy)]
 pub(crate) enum Last {
     Body(usize, usize),
     Empty,

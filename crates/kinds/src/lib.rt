@@ -1,7 +1,9 @@
 // A stored row that an operation is over, by where it stands in the pool; and the operations, by kind.
 
+#![tactic(auto)]
+
 // The row of an earlier entry, by the numbers of its heading: its first cell in the pool, its period, its distance and its granules.
-#[derive(Drop)]
+#[derive(Clone, Copy)]
 pub struct Operand {
     pub start: usize,
     pub period: i64,
@@ -10,7 +12,7 @@ pub struct Operand {
 }
 
 // Alter's numbers: of x coarse granules the y-th gets z fine ones more.
-#[derive(Drop)]
+#[derive(Clone, Copy)]
 pub struct Alteration {
     pub x: i64,
     pub y: i64,
@@ -18,14 +20,14 @@ pub struct Alteration {
 }
 
 // Document 01's Pick: y positions from x on, counted from the end where x is below zero.
-#[derive(Drop)]
+#[derive(Clone, Copy)]
 pub struct Pick {
     pub x: i64,
     pub y: i64,
 }
 
 // The kinds select-down, select-up and select-by-meeting.
-#[derive(Drop)]
+#[derive(Clone, Copy)]
 pub enum Selection {
     Down(Pick),
     Up,
@@ -33,7 +35,7 @@ pub enum Selection {
 }
 
 // Document 01's kinds 9, 10 and 11.
-#[derive(Drop)]
+#[derive(Clone, Copy)]
 pub enum SetOperation {
     Union,
     Intersection,
@@ -41,7 +43,7 @@ pub enum SetOperation {
 }
 
 // The thirteen kinds with their numbers.
-#[derive(Drop)]
+#[derive(Clone, Copy)]
 pub enum Kind {
     Bottom,
     Group(i64),

@@ -1,5 +1,7 @@
 // The least period of a row in a slice, its distance and its granules.
 
+#![tactic(auto)]
+
 ghost use Rattle.std.specs.Prelude.{◌≡◌, ◌↔◌, true, ◌≤◌, ◌<◌, ◌+◌, ◌-◌, ◌*◌, List, ℤ, pos, length, ◌≤ℤ◌};
 ghost use Rattle.std.specs.Int.{◌∣◌};
 ghost use Rattle.integers.specs.Parts.{up};
@@ -127,7 +129,7 @@ fn is_regular(cells: &[i32], q: usize, rise: i32, w: usize) -> bool
 }
 
 // What a try found: whether the cells repeat, and the witnesses for the next try.
-#[derive(Drop)]
+#[derive(Clone, Copy)]
 struct Attempt {
     repeats: bool,
     first: usize,
@@ -195,7 +197,7 @@ fn next_divisor(g: u64, m: u64) -> u64
 }
 
 // The least period of a row, and how many divisors were tried for it.
-#[derive(Drop)]
+#[derive(Clone, Copy)]
 pub struct Shortest {
     pub period: i64,
     pub tried: u64,

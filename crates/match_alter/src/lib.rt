@@ -1,5 +1,7 @@
 // Alter: compares a claimed row with the altered granules of the fine labels.
 
+#![tactic(auto)]
+
 ghost use Rattle.std.specs.Prelude.{◌≡◌};
 ghost use Rattle.kinds.specs.declared.Kind.TheVariants.{Alter};
 ghost use Rattle.kinds.specs.Stands.{row_in, Stands};
@@ -21,7 +23,7 @@ use match_shared::{Matched, cells_of};
 use match_stretches::{compare_leading, compare_stretch};
 
 // An instant, with its cursors in a and in the claimed row.
-#[derive(Drop)]
+#[derive(Clone, Copy)]
 pub struct Place {
     pub index: usize,
     pub cursor: Cursor,
@@ -30,7 +32,7 @@ pub struct Place {
 
 // Where the comparing is among the altered granules: they are found by a walk over b until the altering has gone round once, and from then on by the
 // labels of the claimed row at a place behind. And what was found: the number that the fine granules up to `high` get.
-#[derive(Drop)]
+#[derive(Clone, Copy)]
 pub struct Scan {
     pub walk: Walk,
     pub place: Place,

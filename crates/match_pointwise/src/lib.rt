@@ -1,5 +1,7 @@
 // A claimed row beside the working row of an anchoring or of a set operation, instant by instant.
 
+#![tactic(auto)]
+
 ghost use Rattle.std.specs.Prelude.{◌≡◌};
 ghost use Rattle.kinds.specs.Stands.{row_in};
 ghost use Rattle.fill_shared.specs.Fillable.{Fillable};

@@ -1,5 +1,7 @@
 // What the loops share that compare a claimed row with the working row of an operation, instant by instant, and write nothing.
 
+#![tactic(auto)]
+
 ghost use Rattle.std.specs.Prelude.{◌≡◌, true, cond, ◌&&◌, ℕ, ◌+◌, ◌≤◌, ◌<◌, pos, ◌≤ℤ◌, length, take, drop};
 ghost use Rattle.integers.specs.Parts.{up};
 ghost use Rattle.calendar.specs.Meaning.{Row};
@@ -19,7 +21,7 @@ use fill_shared::{any, end_of};
 use kinds::Operand;
 
 // What a claimed row is beside the working row: the same, another, or compared with a row that checks 12 and 11 refuse.
-#[derive(Drop)]
+#[derive(Clone, Copy)]
 pub enum Matched {
     Same,
     Different,
@@ -29,7 +31,7 @@ pub enum Matched {
 
 // What a loop carries: the cursor of its instant in the claimed row, whether an instant before it is labelled, and whether
 // the labels before it are the same.
-#[derive(Drop)]
+#[derive(Clone, Copy)]
 pub struct Comparing {
     pub cursor: Cursor,
     pub labelled: bool,

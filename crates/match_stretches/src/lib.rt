@@ -1,5 +1,7 @@
 // A stretch of a claimed row: the instants up to a label of a row that is followed, which all are to have one label, but for those with no label there.
 
+#![tactic(auto)]
+
 ghost use Rattle.std.specs.Prelude.{◌≡◌};
 ghost use Rattle.std.specs.Int.Signed.{le_z};
 ghost use Rattle.calendar.specs.Lists.{if_label, on_label};
@@ -16,7 +18,7 @@ const BELOW_LABELS: i64 = -9223372036854775807;
 
 // How far a claimed row is compared: the next instant, with its cursors in the row that is followed and in the claimed row; and
 // whether all before agree.
-#[derive(Drop)]
+#[derive(Clone, Copy)]
 pub struct Compared {
     pub t: usize,
     pub cursor: Cursor,

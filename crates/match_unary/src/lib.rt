@@ -1,5 +1,7 @@
 // A claimed row beside the working row of a group, a shift or a renumbering: the label of an instant is the number of its label in the operand.
 
+#![tactic(auto)]
+
 ghost use Rattle.std.specs.Prelude.{◌≡◌, ◌^◌, ℤ, pos, negsuc, ◌+ℤ◌};
 ghost use Rattle.std.proofs.Math.Option.{some, map};
 ghost use Rattle.calendar.specs.Meaning.{Row, meant};
@@ -23,7 +25,7 @@ use kinds::Operand;
 use match_shared::{Matched, begin, cells_of, compared, outcome};
 
 // The kinds over one row, with their numbers.
-#[derive(Drop)]
+#[derive(Clone, Copy)]
 pub enum Unary {
     Group(i64),
     Shift(i64),
@@ -31,7 +33,7 @@ pub enum Unary {
 }
 
 // The last label of the operand before an instant, and its number.
-#[derive(Drop)]
+#[derive(Clone, Copy)]
 pub struct Counted {
     pub last: i64,
     pub number: i64,

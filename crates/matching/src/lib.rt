@@ -1,5 +1,7 @@
 // A claimed row beside the working row of any kind: whether it has the same labels, and what checks 12 and 11 say. Nothing is written.
 
+#![tactic(auto)]
+
 ghost use Rattle.std.specs.Prelude.{◌≡◌};
 ghost use Rattle.kinds.specs.Stands.{row_in};
 ghost use Rattle.fill_shared.specs.Fillable.{Fillable};

@@ -1,5 +1,7 @@
 // A row of one cell, as bottom and its shifts have: each instant has a label, one more than the instant before.
 
+#![tactic(auto)]
+
 ghost use Rattle.std.specs.Prelude.{◌≡◌, true, ◌≤◌, pos, length, get_or};
 ghost use Rattle.calendar.specs.Meaning.{empty};
 ghost use Rattle.calendar.specs.Limits.{pool_limit};

@@ -1,5 +1,7 @@
 // Open maps in plain numbers, as C takes them: `jogipahn` hands each function on under its name for C.
 
+#![tactic(auto)]
+
 ghost use Rattle.std.specs.Prelude.{◌≡◌, length};
 ghost use Rattle.calendar.specs.Questions.{given};
 ghost use Rattle.codes.specs.Codes.{count_code, value_code, value_left};

@@ -1,5 +1,7 @@
 // Open maps of rows: one bit for each cell, in words of 64. Counting and finding go by whole words.
 
+#![tactic(auto)]
+
 ghost use Rattle.std.specs.Prelude.{◌≡◌, true, pos};
 ghost use Rattle.open_map.specs.Instants.{open_in};
 ghost use Rattle.open_map.specs.Maps.{map_given, map_sound, is_open};
@@ -13,14 +15,14 @@ pub mod finding;
 pub mod turns;
 
 // How many open instants there are.
-#[derive(Drop)]
+#[derive(Clone, Copy)]
 pub enum OpenNumber {
     Is(i64),
     Refused(Refusal),
 }
 
 // An open instant.
-#[derive(Drop)]
+#[derive(Clone, Copy)]
 pub enum OpenInstant {
     At(i64),
     Refused(Refusal),

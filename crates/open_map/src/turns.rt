@@ -7,7 +7,7 @@ ghost use Rattle.open_map.specs.Maps.{map_given};
 ghost use Rattle.open_map.specs.Turns.{Sound, Turning, turned_at, rank, risen_over};
 
 // An instant: which turn of the row it is in, and its cell.
-#[derive(Drop)]
+#[derive(Clone, Copy)]
 pub struct Turned {
     pub turn: i64,
     pub cell: usize,

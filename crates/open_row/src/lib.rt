@@ -2,6 +2,8 @@
 // Any slice and any numbers have an answer or one numbered refusal. What a question asks stands before the row, so that
 // a reader of a row can hand on its fields.
 
+#![tactic(auto)]
+
 ghost use Rattle.std.specs.Prelude.{◌≡◌};
 ghost use Rattle.calendar.specs.Questions.{given};
 ghost use Rattle.open_map.specs.Answers.{number_reply};

@@ -5,14 +5,14 @@ ghost use Rattle.words.specs.Bits.{bit, cell, tally};
 ghost use Rattle.open_steps.specs.Ranked.{Nth};
 
 // A set cell, or by how many the set cells are too few.
-#[derive(Drop)]
+#[derive(Clone, Copy)]
 pub enum Selected {
     At(usize),
     Short(usize),
 }
 
 // Where a search by whole words has come to, and how many set cells are left to pass.
-#[derive(Drop)]
+#[derive(Clone, Copy)]
 pub struct Passed {
     pub word: usize,
     pub left: usize,

@@ -1,5 +1,7 @@
 // So many open instants on from an instant or back, and how many there are between two: by an open map.
 
+#![tactic(auto)]
+
 ghost use Rattle.std.specs.Prelude.{◌≡◌};
 ghost use Rattle.open_map.specs.Maps.{map_given};
 ghost use Rattle.open_map.specs.Answers.{number_reply};
@@ -16,7 +18,7 @@ pub mod steps;
 mod upward;
 
 // An open instant, or none.
-#[derive(Drop)]
+#[derive(Clone, Copy)]
 pub enum OpenStep {
     At(i64),
     Nothing,

@@ -1,5 +1,7 @@
 // The checks of an entry's operands and of its room: 7 in its own file; 8 for the span, 9, 10, 8 for the working period, in document 01's order.
 
+#![tactic(auto)]
+
 ghost use Rattle.std.specs.Prelude.{◌≡◌, true, pos, ◌≤ℤ◌};
 ghost use Rattle.integers.specs.Parts.{up};
 ghost use Rattle.calendar.specs.Checks.{full_operands};
@@ -20,7 +22,7 @@ mod grouping;
 mod spanning;
 
 // The span of an operation, its working period and the distance that goes with it.
-#[derive(Drop)]
+#[derive(Clone, Copy)]
 pub struct Extent {
     pub span: i64,
     pub period: i64,
@@ -28,7 +30,7 @@ pub struct Extent {
 }
 
 // What the checks come to: a refusal, or how far the working row reaches.
-#[derive(Drop)]
+#[derive(Clone, Copy)]
 pub enum Checked {
     Refused(Refusal),
     Passed(Extent),

@@ -1,5 +1,7 @@
 // The parts of a granule: the granules of another row that make it up, by one walk over it.
 
+#![tactic(auto)]
+
 ghost use Rattle.std.specs.Prelude.{◌≡◌, pos, length, replicate};
 ghost use Rattle.calendar.specs.Questions.{given};
 ghost use Rattle.cursors.specs.Found.{found, Sound};
@@ -11,7 +13,7 @@ use cursors::{Cursor, Found};
 
 // What an instant says of the parts of a granule: none begins there, it is in a gap of the granule and has this label, the next part begins there,
 // the granule is over, or the parts do not make it up.
-#[derive(Drop)]
+#[derive(Clone, Copy)]
 enum Part {
     Nothing,
     Outside(i64),
@@ -21,7 +23,7 @@ enum Part {
 }
 
 // How many parts make up a granule, if any do.
-#[derive(Drop)]
+#[derive(Clone, Copy)]
 pub enum Walked {
     Parts(usize),
     Incomplete,

@@ -1,6 +1,8 @@
 // Two rows gone over piece by piece. In a piece the cells of each row follow one another, so that one number raises all its
 // labels: a loop over a piece is a plain loop over cells of 32 bits.
 
+#![tactic(auto)]
+
 ghost use Rattle.std.specs.Prelude.{◌≡◌, not, ◌+◌, ◌≤◌, min, ℤ};
 ghost use Rattle.std.proofs.Math.Option.{some};
 ghost use Rattle.calendar.specs.Meaning.{label_of, raise};
@@ -12,7 +14,7 @@ ghost use Rattle.pieces.specs.Places.{place_from, place_on};
 use calendar::Calendar;
 
 // The place of an instant in a row: its cell, and how far the labels of its turn are above those of the first turn.
-#[derive(Drop)]
+#[derive(Clone, Copy)]
 pub struct Place {
     pub cell: usize,
     pub rise: i64,

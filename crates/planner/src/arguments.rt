@@ -20,7 +20,7 @@ const ENTRIES: i64 = 64;
 
 const HEADING: usize = 4;
 
-#[derive(Drop)]
+#[derive(Clone, Copy)]
 pub struct Row {
     pub entry: i64,
     pub start: u32,
@@ -39,27 +39,27 @@ pub fn cells_of<'a>(pool: &'a [i32], row: Row) -> &'a [i32] {
     }
 }
 
-#[derive(Drop)]
+#[derive(Clone, Copy)]
 pub enum Entry {
     Is(Row),
     Nothing,
 }
 
-#[derive(Drop)]
+#[derive(Clone, Copy)]
 pub enum Number {
     Is(i64),
     Nothing,
 }
 
 // An instant, and whether it was given as a date.
-#[derive(Drop)]
+#[derive(Clone, Copy)]
 pub enum When {
     Is(i64, bool),
     Nothing,
 }
 
 // How late a slot may be: by so many days, or by a share of it in parts of 256.
-#[derive(Drop)]
+#[derive(Clone, Copy)]
 pub enum Allowed {
     Days(u64),
     Share(u64),
@@ -67,7 +67,7 @@ pub enum Allowed {
 }
 
 // The value of digits, and where they end.
-#[derive(Drop)]
+#[derive(Clone, Copy)]
 pub struct Scanned {
     pub value: u64,
     pub end: usize,

@@ -6,7 +6,7 @@ use open_map::OpenNumber;
 use printing::print;
 
 // A month whose first day stands in the column `first`, Monday being 0, and that has `last` days.
-#[derive(Drop)]
+#[derive(Clone, Copy)]
 pub struct Month {
     pub year: i64,
     pub month: i64,

@@ -1,5 +1,7 @@
 // What the programs print on standard output: text, numbers, the cells of a row and a refusal.
 
+#![tactic(auto)]
+
 use calendar::Calendar;
 
 pub fn print(text: &[u8]) {

@@ -10,7 +10,7 @@ use cursors::Found;
 use parts::Walked;
 
 // How many parts there are.
-#[derive(Drop)]
+#[derive(Clone, Copy)]
 pub enum Parted {
     Parts(usize),
     Refused(Refusal),

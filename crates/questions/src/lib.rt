@@ -2,6 +2,8 @@
 // is in its own file. Nothing is asked of the caller: any slice and any numbers have an answer or one numbered refusal. What a
 // question asks stands before the row, so that a reader of a row can hand on its fields.
 
+#![tactic(auto)]
+
 ghost use Rattle.std.specs.Prelude.{◌≡◌};
 ghost use Rattle.calendar.specs.Questions.{given, up_from_instant, up_from_granule};
 ghost use Rattle.questions.specs.Answers.{placed_reply, up_reply, FiguresOf, least_period, shortening_reply, late_reply, may_be_late};
@@ -14,7 +16,7 @@ pub mod checked;
 pub mod down;
 
 // The label of an instant, and its place among the slot's own instants, from 1; or none.
-#[derive(Drop)]
+#[derive(Clone, Copy)]
 pub enum Placing {
     At(i64, u64),
     Nothing,
@@ -22,27 +24,27 @@ pub enum Placing {
 }
 
 // The label of the slot that holds what was asked about, or none.
-#[derive(Drop)]
+#[derive(Clone, Copy)]
 pub enum Up {
     Label(i64),
     Nothing,
     Refused(Refusal),
 }
 
-#[derive(Drop)]
+#[derive(Clone, Copy)]
 pub enum Figured {
     Are(Figures),
     Refused(Refusal),
 }
 
 // The least period, and how many divisors were tried for it.
-#[derive(Drop)]
+#[derive(Clone, Copy)]
 pub enum Shortening {
     To(Shortest),
     Refused(Refusal),
 }
 
-#[derive(Drop)]
+#[derive(Clone, Copy)]
 pub enum Late {
     Allowed,
     TooLate,

@@ -1,6 +1,8 @@
 // Questions to a row in plain numbers, as C takes them: `jogipahn` hands each function on under its name for C. Each answers
 // with one number, a refusal's being below zero; what else there is to say is left in the lists and behind the references.
 
+#![tactic(auto)]
+
 ghost use Rattle.std.specs.Prelude.{◌≡◌, length};
 ghost use Rattle.calendar.specs.Questions.{given};
 ghost use Rattle.calendar.specs.Questions as Q;

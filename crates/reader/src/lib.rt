@@ -1,5 +1,7 @@
 // Questions to a row, put through a reader that borrows it.
 
+#![tactic(auto)]
+
 ghost use Rattle.std.specs.Prelude.{◌≡◌, length};
 ghost use Rattle.calendar.specs.Questions as Q;
 ghost use Rattle.calendar.specs.Questions.{given, up_from_instant, up_from_granule};
@@ -17,7 +19,7 @@ use questions::{Figured, Late, Placing, Shortening, Up};
 use row_maps::Made;
 
 // One row, borrowed together with its period and distance.
-#[derive(Drop)]
+#[derive(Clone, Copy)]
 pub struct Reader<'a> {
     pub cells: &'a [i32],
     pub period: i64,

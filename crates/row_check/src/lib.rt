@@ -1,5 +1,7 @@
 // What passes over the cells of a row find: whether it passes check 13, and an instant with a label.
 
+#![tactic(auto)]
+
 ghost use Rattle.std.specs.Prelude.{◌≡◌, ℤ, pos, ◌^◌, ◌≤ℤ◌};
 ghost use Rattle.integers.specs.Parts.{up};
 ghost use Rattle.std.proofs.Math.Option.{some};

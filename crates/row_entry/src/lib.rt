@@ -1,5 +1,7 @@
 // The row of an entry that has passed checks 4 to 6, entered behind the rows of the entries before it.
 
+#![tactic(auto)]
+
 ghost use Rattle.std.specs.Prelude.{◌≡◌, List, ◌∷◌, ◌++◌, ℕ, ◌+◌, ◌-◌, ◌*◌, ◌≤◌, pos, ◌≤ℤ◌, length, take, drop};
 ghost use Rattle.integers.specs.Parts.{up};
 ghost use Rattle.calendar.specs.Meaning.{Row};
@@ -28,7 +30,7 @@ use operand_checks::{Checked, Extent};
 pub const HEADING_LENGTH: usize = 4;
 
 // What entering the row of an entry comes to: a refusal, or the row ends before that cell.
-#[derive(Drop)]
+#[derive(Clone, Copy)]
 pub enum Appended {
     Refused(Refusal),
     Ends(usize),
@@ -106,7 +108,7 @@ pub fn check_in(kind: Kind, room: i64, pool: &[i32], a: Operand, b: Operand) -> 
 }
 
 // The period and the granules of a least row.
-#[derive(Drop)]
+#[derive(Clone, Copy)]
 struct Shape {
     period: i64,
     granules: i64,

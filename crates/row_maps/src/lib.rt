@@ -1,5 +1,7 @@
 // The open map of a row: one bit for each cell, in words of 64.
 
+#![tactic(auto)]
+
 ghost use Rattle.std.specs.Prelude.{◌≡◌, ◌+◌, ◌^◌, ◌≤◌, ◌<◌, length, replicate};
 ghost use Rattle.calendar.specs.Questions.{given};
 ghost use Rattle.bitmaps.specs.Cells.{words_for};
@@ -7,7 +9,7 @@ ghost use Rattle.row_maps.specs.Making.{labelled, packed, word_of, map_of, map_r
 
 use calendar::{Calendar, Refusal};
 
-#[derive(Drop)]
+#[derive(Clone, Copy)]
 pub enum Made {
     Done,
     Refused(Refusal),

@@ -1,5 +1,7 @@
 // Which granules of the row a a selection keeps, judged by the granules of the row b: document 01's kinds 6, 7 and 8.
 
+#![tactic(auto)]
+
 ghost use Rattle.std.specs.Prelude.{◌≡◌, true, false, ◌&&◌, ◌^◌, pos};
 ghost use Rattle.std.proofs.Math.Option.{some};
 ghost use Rattle.std.specs.Int.Signed.{le_z, lt_z};
@@ -25,7 +27,7 @@ mod up;
 
 // What Pick takes for b's granule `of`, once that is known (1 is yes): of the granules in question those from low to high, if any. Here and below a
 // test that is kept is a number: the padding of a bool slows down each copy.
-#[derive(Drop)]
+#[derive(Clone, Copy)]
 pub struct Picked {
     pub known: i64,
     pub of: i64,
@@ -34,7 +36,7 @@ pub struct Picked {
 }
 
 // Whether a granule of a is kept (1 is yes), and what is known of Pick then.
-#[derive(Drop)]
+#[derive(Clone, Copy)]
 pub struct Decision {
     pub holds: i64,
     pub picked: Picked,

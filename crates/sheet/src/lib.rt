@@ -1,5 +1,7 @@
 // The sheet of a table's text, on standard output.
 
+#![tactic(auto)]
+
 ghost use Rattle.std.specs.Prelude.{◌<◌};
 
 use sheet_text::{SHEET_LIMIT, Written};

@@ -1,6 +1,8 @@
 // The lines of a sheet, laid into a lent list one behind the other. Each function takes the place where its bytes go and answers the place behind
 // them; bytes that the list has no room for are left out, and the place is then behind the list's end.
 
+#![tactic(auto)]
+
 ghost use Rattle.std.specs.Prelude.{◌≡◌, [], ◌∷◌, ◌+◌, ◌<◌, nat_abs};
 ghost use Rattle.table_text.specs.Numerals.{decimal, numeral};
 ghost use Rattle.table_text.specs.SheetWords.{cell_word};

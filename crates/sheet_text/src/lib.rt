@@ -1,5 +1,7 @@
 // The sheet of a table's text: the lines of its rows, or the line of its refusal.
 
+#![tactic(auto)]
+
 ghost use Rattle.std.specs.Prelude.{◌≡◌, [], ◌*◌, length};
 ghost use Rattle.calendar.specs.Limits.{entry_limit, heading_length};
 ghost use Rattle.calendar.specs.Lists.{filled};
@@ -21,7 +23,7 @@ pub const SHEET_LIMIT: usize = 49792;
 const SHEET_POOL: usize = 4096;
 
 // How much of a lent list a sheet takes, or that it is too short for it.
-#[derive(Drop)]
+#[derive(Clone, Copy)]
 pub enum Written {
     Bytes(usize),
     TooShort,

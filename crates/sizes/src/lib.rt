@@ -1,5 +1,7 @@
 // The room that an entry takes: spans, rises of labels and working periods, with no product that wraps.
 
+#![tactic(auto)]
+
 ghost use Rattle.std.specs.Prelude.{◌≡◌, ◌≤◌, pos, ◌≤ℤ◌};
 ghost use Rattle.integers.specs.Capped.{capped_at};
 ghost use Rattle.calendar.specs.Operation.Unary.{group};
@@ -10,7 +12,7 @@ ghost use Rattle.sizes.specs.Altered.{alter_period, alter_distance};
 use integers::Capped;
 
 // The period of a row, and how far its labels rise over it.
-#[derive(Drop)]
+#[derive(Clone, Copy)]
 pub struct Turn {
     pub period: u64,
     pub distance: u64,
@@ -40,7 +42,7 @@ pub fn group_period(a: Turn, x: u64, room: u64) -> Capped
 }
 
 // After how many coarse granules alter repeats, and by how many fine ones: document 01's n and D.
-#[derive(Drop)]
+#[derive(Clone, Copy)]
 pub struct Altering {
     pub coarse: u64,
     pub fine: i64,

@@ -19,14 +19,14 @@ const HEADINGS: usize = 256;
 const LINE_FEED: u8 = 10;
 
 // A cell that was read, and where it ends; at its own start where there is none.
-#[derive(Drop)]
+#[derive(Clone, Copy)]
 struct Cell {
     value: i32,
     end: usize,
 }
 
 // Where a line ends, and how many cells stand then; or that it is no row.
-#[derive(Drop)]
+#[derive(Clone, Copy)]
 struct Laid {
     end: usize,
     used: usize,
@@ -34,7 +34,7 @@ struct Laid {
 }
 
 // The labels of a row as far as it was looked at: how many there are, the first and the last.
-#[derive(Drop)]
+#[derive(Clone, Copy)]
 struct Seen {
     count: u32,
     first: i32,

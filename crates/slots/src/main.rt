@@ -2,6 +2,8 @@
 // of it as a picture, a book of tables and the check of a finished sheet. A table's text is on standard input. Answers
 // go to standard output, what goes wrong to standard error.
 
+#![tactic(auto)]
+
 use libc::{STDERR_FILENO, STDIN_FILENO, STDOUT_FILENO};
 use planner::{arguments, refusals};
 use table_text::TEXT_LIMIT;
@@ -10,7 +12,7 @@ mod converted;
 mod finished;
 mod usage;
 
-#[derive(Drop)]
+#[derive(Clone, Copy)]
 enum Command {
     Rows,
     Month,

@@ -1,5 +1,7 @@
 // Rows that stand in lent lists, one behind the other, each with its heading.
 
+#![tactic(auto)]
+
 ghost use Rattle.std.specs.Prelude.{◌≡◌, true, ◌+◌, ◌*◌, ◌≤◌, pos, ◌≤ℤ◌, length, drop};
 ghost use Rattle.integers.specs.Parts.{up};
 ghost use Rattle.calendar.specs.Limits.{pool_limit, heading_length};
@@ -11,7 +13,7 @@ use calendar::Calendar;
 use conversion::HEADING_LENGTH;
 
 // Whether rows stand, and the cell behind the last.
-#[derive(Drop)]
+#[derive(Clone, Copy)]
 pub struct Stood {
     pub ok: bool,
     pub end: usize,

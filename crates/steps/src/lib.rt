@@ -1,5 +1,7 @@
 // The conversion of a table in steps: the start makes checks 1 to 3, and each call takes one entry.
 
+#![tactic(auto)]
+
 ghost use Rattle.std.specs.Prelude.{◌≡◌, true, ◌<◌};
 ghost use Rattle.calendar.specs.Limits.{entry_limit};
 ghost use Rattle.standing.specs.Tests.{EndsAt};
@@ -12,7 +14,7 @@ use entries::{Begun, ENTRY_LENGTH};
 use standing::Stood;
 
 // How far a walk is: the entry due at the next call; the end; or a refusal, by its number and its entry. A walk with an entry due has more to do.
-#[derive(Drop)]
+#[derive(Clone, Copy)]
 pub enum Progress {
     Due(u32),
     Done,
@@ -20,7 +22,7 @@ pub enum Progress {
 }
 
 // How long the three lists were at the start: numbers of the table, numbers of headings, cells.
-#[derive(Drop)]
+#[derive(Clone, Copy)]
 pub struct Lengths {
     pub table: usize,
     pub headings: usize,
@@ -28,7 +30,7 @@ pub struct Lengths {
 }
 
 // The state of a walk: plain data, which a caller keeps from call to call.
-#[derive(Drop)]
+#[derive(Clone, Copy)]
 pub struct Walk {
     pub lengths: Lengths,
     pub progress: Progress,

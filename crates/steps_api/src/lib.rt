@@ -1,5 +1,7 @@
 // Walks in plain numbers, as C takes them: `jogipahn` hands each function on under its name for C.
 
+#![tactic(auto)]
+
 ghost use Rattle.std.specs.Prelude.{◌≡◌, length};
 ghost use Rattle.integers.specs.Parts.{up};
 ghost use Rattle.steps.specs.State.{progress_of, walk_of};
@@ -16,14 +18,14 @@ pub const STATE_LENGTH: usize = 8;
 const NO_WALK: i64 = 1300;
 
 // How far a walk is, or that two numbers don't say.
-#[derive(Drop)]
+#[derive(Clone, Copy)]
 enum Staged {
     At(Progress),
     Nowhere,
 }
 
 // The walk of a state, or that there is none.
-#[derive(Drop)]
+#[derive(Clone, Copy)]
 enum Held {
     Is(Walk),
     Nothing,

@@ -1,6 +1,8 @@
 // Over the instants of a row in strides: to the next instant with another label, and any number of instants on. A look at the cells alone
 // finds the next label, and cursors are moved once for the whole stride.
 
+#![tactic(auto)]
+
 ghost use Rattle.std.specs.Prelude.{◌≡◌, ◌+◌, ◌≤◌, ◌^◌, ℤ, pos, ◌+ℤ◌, ◌≤ℤ◌, length, drop};
 ghost use Rattle.calendar.specs.Questions.{given};
 ghost use Rattle.cursors.specs.Found.{Sound};
@@ -12,7 +14,7 @@ use calendar::Calendar;
 use cursors::Cursor;
 
 // The next instant with another label: its cursor, and how many instants on it is.
-#[derive(Drop)]
+#[derive(Clone, Copy)]
 pub struct Change {
     pub cursor: Cursor,
     pub steps: i64,

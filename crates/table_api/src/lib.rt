@@ -1,6 +1,8 @@
 // The conversion of a table and the sheet of a text in plain numbers, as C takes them: `jogipahn` hands each function on
 // under its name for C.
 
+#![tactic(auto)]
+
 ghost use Rattle.std.specs.Prelude.{◌≡◌, length};
 ghost use Rattle.table_api.specs.Codes.{conversion_code};
 ghost use Rattle.table_api.specs.LeftCoded.{LeftCoded, SheetCoded};

@@ -10,7 +10,7 @@ use entries::ENTRY_LENGTH;
 const SPACE: u8 = 32;
 
 // The six numbers of a line, if it is good.
-#[derive(Drop)]
+#[derive(Clone, Copy)]
 pub(crate) struct Line {
     pub(crate) good: bool,
     pub(crate) numbers: [i32; ENTRY_LENGTH],

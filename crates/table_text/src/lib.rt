@@ -1,5 +1,7 @@
 // A table's text, read into numbers.
 
+#![tactic(auto)]
+
 mod entry;
 mod number;
 mod table;

@@ -9,14 +9,14 @@ ghost use Rattle.table_text.specs.Answers.{natural_answer, number_answer, digits
 const BOUND: u64 = 2147483648;
 
 // A natural number up to 2^31, or a word that is none.
-#[derive(Drop)]
+#[derive(Clone, Copy)]
 enum Natural {
     Value(u64),
     Bad,
 }
 
 // The 32-bit number that a word is, or a word that is none.
-#[derive(Drop)]
+#[derive(Clone, Copy)]
 pub(crate) enum Number {
     Value(i32),
     Bad,

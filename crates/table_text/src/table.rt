@@ -19,7 +19,7 @@ pub const TABLE_LENGTH: usize = 2048;
 const LINE_FEED: u8 = 10;
 
 // What reading a text comes to: the number of its first bad line, or how many numbers its table has.
-#[derive(Drop)]
+#[derive(Clone, Copy)]
 pub enum Reading {
     Bad(u32),
     Table(usize),

@@ -1,6 +1,8 @@
 // Converts stored tables and prints what comes of each: its refusal, or a line for each row with period, distance, slots and cells, "." for no label. The
 // tables and what is to be printed are written by the second implementation (rust/compare/src/vectors.rs).
 
+#![tactic(auto)]
+
 use conversion::{Conversion, HEADING_LENGTH};
 use printing::{print, print_refusal, print_turn};
 

@@ -1,5 +1,7 @@
 // The conversion of a table in steps, with a record for each heading.
 
+#![tactic(auto)]
+
 ghost use Rattle.std.specs.Prelude.{◌≡◌, cond, ◌*◌, ◌<◌, ◌^◌, take, drop};
 ghost use Rattle.calendar.specs.Limits.{heading_length};
 ghost use Rattle.headings.specs.Records.{numbers_of};
@@ -17,7 +19,7 @@ use steps::{Lengths, Progress, Walk};
 
 // What a start or a call comes to, by value: the walk, four numbers for each entry that a table may have, and whether
 // the headings are to stay as they are.
-#[derive(Drop)]
+#[derive(Clone, Copy)]
 struct Passed {
     walk: Walk,
     numbers: [u32; HEADING_LENGTH * ENTRY_LIMIT],

@@ -1,5 +1,7 @@
 // Words of 64 bits: how many of their bits are set, and which.
 
+#![tactic(auto)]
+
 ghost use Rattle.std.specs.Prelude.{◌≡◌, ◌%◌, ◌^◌, ◌<◌};
 ghost use Rattle.words.specs.Bits.{bit, tally};
 ghost use Rattle.words.specs.Places.{Least, Greatest};

@@ -1,6 +1,8 @@
 // Converts a table of the slots of document 01 that are worked by hand, and prints their rows. Of each calendar it gives the period, the distance, the slots
 // per period and the labels of three turns of its row: the turn before instant 0, the row itself and the next turn. "." is an instant with no label.
 
+#![tactic(auto)]
+
 use conversion::{Conversion, HEADING_LENGTH};
 use printing::{print, print_turn};
 

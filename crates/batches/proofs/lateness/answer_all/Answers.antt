@@ -1,0 +1,81 @@
+-- `batches::lateness::answer_all` meets its contract. The loop's invariant: the front of the list has the answers to the
+-- first i slots.
+use borrow.Author.Rules.{rules, sfits_of}
+use mathlib.Core.Path.{◌≡◌, refl, ◌∙◌, ap}
+use Prim.Native.Nat.{◌≤◌, ◌-◌}
+use native.Mathlib.Omega.{arith}
+use lib.IntN.{ℤ, pos}
+use lib.ListN.{length, take, get_or}
+use mir.Syntax.{w64}
+use mir.Val.{to_z, of_z}
+use mir.Facts.{to_z-of_z}
+use Rattle.integers.proofs.Machine.{plain}
+use Rattle.calendar.specs.Meaning.{Row}
+use Rattle.calendar.specs.Questions.{given}
+use Rattle.floats.specs.declared.Allowance.{Allowance}
+use Rattle.questions.specs.Answers.{late_reply, may_be_late}
+use Rattle.questions_api.specs.Codes.{late_code}
+use Rattle.batches.specs.Front.{front}
+use Rattle.batches.proofs.Fronts.{front-more, front-all, front-whole}
+use Rattle.batches.proofs.lateness.answer_all.Invariants.{code}
+use Rattle.batches.proofs.lateness.answer_all.Goals as goal
+use Rattle.batches.proofs.lateness.answer_all.Goals.{After-asked-late, At-loop-i, Start}
+
+abbrev row : Start → Row
+row s = given (to_z w64 (of_z w64 s.args.period)) (to_z w64 (of_z w64 s.args.distance)) s.args.cells.now
+
+abbrev late : Start → ℤ
+late s = to_z w64 (of_z w64 s.args.d)
+
+abbrev codes : Start → ℤ → ℤ
+codes s = code (row s) (late s) s.args.allowance
+
+-- the list has the length that it had
+whole : (c : At-loop-i) → length c.loop-i.answers ≡ length c.args.answers.now
+whole c =
+    let s = (goal.at.At-loop-i c).Start in
+    front-whole (codes s) s.args.zs.now _ c.loop-i.i s.requires c.loop-i.invariant.1
+
+pub loop-i-init : goal.loop-i-init
+loop-i-init c = (omega arith, refl)
+
+pub offset_bounds-zs-i : goal.offset_bounds-zs-i
+offset_bounds-zs-i c = omega (arith, c.well-formed.0.1)
+
+pub asked-late-requires : goal.asked-late-requires
+asked-late-requires c = c.sound-sound.ensures
+
+replied : (c : After-asked-late) → let a = (goal.at.After-asked-late c).At-loop-i in let s = (goal.at.At-loop-i a).Start in
+    late_reply c.asked-late.result ≡ may_be_late (row s) (get_or s.args.zs.now a.loop-i.i (pos 0)) (late s) s.args.allowance
+replied c =
+    let s = (goal.at.After-asked-late c).Start in
+    c.asked-late.ensures
+    ∙ ap (λ (z : ℤ). may_be_late (row s) z (late s) s.args.allowance) (to_z-of_z (sfits_of c.asked-arg-1.given))
+
+pub offset_bounds-answers-i : goal.offset_bounds-answers-i
+offset_bounds-answers-i c = omega (arith, c.well-formed.0.1)
+
+pub bounds-answers-i : goal.bounds-answers-i
+bounds-answers-i c =
+    let a = (goal.at.bounds-answers-i c).At-loop-i in
+    omega (arith, whole a, a.requires, c.loop-i-test.true)
+
+pub loop-i-preserved : goal.loop-i-preserved
+loop-i-preserved c =
+    let a = (goal.at.loop-i-preserved c).At-loop-i in
+    let s = (goal.at.At-loop-i a).Start in
+    let here = c.loop-i-test.true in
+    let k = to_z-of_z {w = w64} (sfits_of c.of_late.type_inv) ∙ c.of_late.ensures ∙ ap late_code (replied (goal.at.loop-i-preserved c).After-asked-late) in
+    (omega arith, front-more (codes s) s.args.zs.now _ a.loop-i.i here s.requires k a.loop-i.invariant.1)
+
+pub shape_of-answers : goal.shape_of-answers
+shape_of-answers c = whole (goal.at.shape_of-answers c).At-loop-i
+
+pub returns : goal.returns
+returns c =
+    let s = (goal.at.returns c).Start in
+    let p = s.ranges.period in
+    let n = s.ranges.distance in
+    let d = s.ranges.d in
+    let x = front-all (codes s) s.args.zs.now _ c.loop-i.i c.loop-i-test.false c.loop-i.invariant.1 in
+    simp plain at x

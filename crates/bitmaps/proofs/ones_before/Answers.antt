@@ -1,0 +1,10 @@
+-- `bitmaps::ones_before` meets its contract.
+-- Assumes nothing.
+use native.Mathlib.Omega.{arith}
+use Rattle.words.specs.Bits.{cell}
+use Rattle.words.proofs.Tally.{tally-zero}
+use borrow.Author.Rules.{rules}
+use Rattle.bitmaps.proofs.ones_before.Goals as goal
+
+pub returns : goal.returns
+returns c = omega (arith, c.ones_between.ensures, tally-zero (cell c.args.words.now))

@@ -1,0 +1,15 @@
+-- `bitmaps::zeros_below` meets its contract. The loop's invariant: the words from `end` up to i are zero.
+-- Assumes nothing.
+use Rattle.words.specs.Places.{Clear}
+use Rattle.bitmaps.proofs.Words.{clear-join}
+use borrow.Author.Rules.{rules}
+use Prim.Native.Nat.{◌≤◌}
+use native.Mathlib.Omega.{arith}
+use lib.ListN.{get_or}
+use Rattle.bitmaps.proofs.zeros_below.Given as goal
+
+abbrev pub invariant-loop-end : goal.invariant-loop-end
+invariant-loop-end l = (l.end ≤ l.i) × Clear (λ m. get_or l.words m 0) l.end l.i
+
+abbrev pub decreases-loop-end : goal.decreases-loop-end
+decreases-loop-end l = l.end

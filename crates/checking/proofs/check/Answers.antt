@@ -1,0 +1,38 @@
+-- `checking::check` meets its contract: checks 1, 2 and 3 pass, and then it is what its entries and the rest come to.
+-- Assumes nothing.
+use borrow.Author.Rules.{rules}
+use mathlib.Core.Path.{◌≡◌, sym, ◌∙◌, ap}
+use Prim.Native.Nat.{ℕ, ◌/◌}
+use lib.ListN.{length}
+use Rattle.calendar.specs.Limits.{heading_length}
+use Rattle.calendar.specs.Reply.Reply.{answer}
+use Rattle.calendar.specs.Table.{admitted}
+use Rattle.entries.specs.Entries.{begun_reply}
+use Rattle.checking.proofs.Table.{check-refused, check-admitted, admitted-claimed}
+use Rattle.checking.proofs.check.Goals as goal
+use Rattle.checking.proofs.check.Goals.{After-begin-begun, In-Entries, In-Refused-2}
+
+pub returns-in-Refused : goal.returns-in-Refused
+returns-in-Refused c =
+    let k = (goal.at.returns-in-Refused c).In-Refused-2 in
+    let b = (goal.at.In-Refused-2 k).After-begin-begun in
+    let a = b.args in
+    rw c.number.ensures (check-refused a.table.now a.headings.now a.pool.now _ (sym b.begin-begun.ensures ∙ ap begun_reply k.begun-1.given.1))
+
+abbrev count : In-Entries → ℕ
+count c = c.begun-in-Entries-1.given.0.0
+
+passes : (c : In-Entries) → let a = c.args in
+    admitted a.table.now (length a.headings.now / heading_length) (length a.pool.now) ≡ answer (count c)
+passes c = sym c.begin-begun.ensures ∙ ap begun_reply c.begun-in-Entries-1.given.1
+
+pub check_entries-requires : goal.check_entries-requires
+check_entries-requires c =
+    let a = c.args in
+    admitted-claimed a.table.now a.headings.now a.pool.now (count c) (passes c)
+
+pub returns-in-Entries : goal.returns-in-Entries
+returns-in-Entries c =
+    let k = (goal.at.returns-in-Entries c).In-Entries in
+    let a = k.args in
+    c.check_entries.ensures ∙ sym (check-admitted a.table.now a.headings.now a.pool.now (count k) (passes k))

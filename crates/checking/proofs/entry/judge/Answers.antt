@@ -1,0 +1,20 @@
+-- `checking::entry::judge` meets its contract.
+-- Assumes nothing.
+use mathlib.Core.Path.{◌≡◌, refl, sym, ◌∙◌, ap, ap₂}
+use mathlib.Core.Bool.{Bool, true, false}
+use borrow.Author.Rules.{rules}
+use Rattle.match_shared.specs.declared.Matched.{Matched}
+use Rattle.match_shared.specs.declared.Matched.TheVariants.{Same, Different, Unlabelled, OutOfRange}
+use Rattle.checking.specs.Weighing.{judged_as}
+use Rattle.checking.proofs.entry.judge.Goals as goal
+
+pub returns-in-Unlabelled : goal.returns-in-Unlabelled
+returns-in-Unlabelled c = let a = c.args in sym (ap (λ (m : Matched). judged_as m a.claim.ok a.claim.end) c.enum_told-1.given.1)
+
+pub returns-in-OutOfRange : goal.returns-in-OutOfRange
+returns-in-OutOfRange c = let a = c.args in sym (ap (λ (m : Matched). judged_as m a.claim.ok a.claim.end) c.enum_told-in-OutOfRange-1.given.1)
+
+pub returns-then-claim : goal.returns-then-claim
+returns-then-claim c =
+    let a = c.args in
+    sym (ap₂ (λ (m : Matched) (ok : Bool). judged_as m ok a.claim.end) c.enum_told-in-Same-1.given.1 c.if-claim.true)

@@ -1,0 +1,27 @@
+-- `fill_pointwise::decided` meets its contract.
+-- Assumes nothing.
+use borrow.Author.Rules.{rules}
+use mathlib.Core.Path.{sym, ◌∙◌, ap}
+use mathlib.Core.Option.{Option, some}
+use lib.IntN.{ℤ}
+use mir.Facts.{to_z-of_z}
+use Rattle.cursors.specs.declared.Found.{Found}
+use Rattle.cursors.specs.Found.{found}
+use Rattle.fill_pointwise.specs.declared.Pointwise.{Pointwise}
+use Rattle.fill_pointwise.specs.declared.Pointwise.TheVariants.{Anchor}
+use Rattle.fill_pointwise.specs.Decided.{decided_label}
+use Rattle.fill_pointwise.proofs.decided.Goals as goal
+use Rattle.fill_pointwise.proofs.decided.Goals.{Start}
+
+-- the label, by what is known of the kind
+abbrev decided-by : (s : Start) → Pointwise → Option ℤ
+decided-by s by = decided_label by (found s.args.x) (found s.args.y) s.args.last
+
+pub returns-in-At : goal.returns-in-At
+returns-in-At c =
+    let s = (goal.at.returns-in-At c).Start in
+    ap {B = Option ℤ} some (to_z-of_z s.ranges.last)
+    ∙ sym (ap (decided-by s) c.enum_told-1.given.1 ∙ ap (λ (x : Found). decided_label Anchor (found x) (found s.args.y) s.args.last) c.enum_told-in-At-1.given.1)
+
+pub returns-in-ByLabels : goal.returns-in-ByLabels
+returns-in-ByLabels c = let s = (goal.at.returns-in-ByLabels c).Start in c.set_label.ensures ∙ sym (ap (decided-by s) c.by-1.given.1)

@@ -1,0 +1,48 @@
+-- `fill_pointwise::fill_second` meets its contract: the cells of a tell which labels are kept.
+-- Assumes nothing.
+use borrow.Author.Rules.{rules}
+use mathlib.Core.Path.{◌∙◌, ap}
+use mathlib.Core.Bool.{cond}
+use Prim.Native.Nat.{ℕ}
+use lib.Dec.{ltb}
+use lib.IntN.{pos}
+use lib.ListN.{get_or}
+use mir.Syntax.{w32}
+use mir.Val.{SFits}
+use Rattle.integers.proofs.Machine.{plain}
+use Rattle.fill_shared.specs.declared.Filled.TheVariants.{Labelled, Unlabelled}
+use Rattle.fill_shared.proofs.Working.{range-fits}
+use Rattle.fill_pointwise.specs.Beside.{keeps_second}
+use Rattle.fill_pointwise.proofs.OneCell.{Tells, second-tells, beside-room, beside-fills}
+use Rattle.fill_pointwise.proofs.fill_second.Goals as goal
+use Rattle.fill_pointwise.proofs.fill_second.Goals.{After-fill_beside-count, After-keeps_shared-shared, Start}
+
+tells : (s : Start) → let a = s.args in Tells a.set a.a a.b a.at a.period a.pool.now a.b a.a (keeps_second a.set)
+tells s = second-tells _ _ _ _ _ _ _ s.requires.fillable s.requires.placed s.requires.serves.one
+
+-- the only cell of b
+first_fits : (s : Start) → SFits w32 (get_or s.args.pool.now s.args.b.start (pos 0))
+first_fits s = range-fits _ (tells s).range
+
+pub offset_bounds-pool-start : goal.offset_bounds-pool-start
+offset_bounds-pool-start c = let t = tells c in search rules
+
+pub slice_copy_out-first : goal.slice_copy_out-first
+slice_copy_out-first c = (tells c).inside
+
+pub fill_beside-count-requires : goal.fill_beside-count-requires
+fill_beside-count-requires c =
+    let s = (goal.at.fill_beside-count-requires c).Start in
+    let f = first_fits s in
+    simp plain (beside-room _ _ _ _ _ _ _ s.requires.fillable s.requires.placed _ _ _ s.requires.serves (tells s))
+
+pub returns : goal.returns
+returns c =
+    let b = (goal.at.returns c).After-fill_beside-count in
+    let k = (goal.at.After-fill_beside-count b).After-keeps_shared-shared in
+    let s = (goal.at.After-keeps_shared-shared k).Start in
+    let f = first_fits s in
+    let h = simp plain at b.fill_beside-count.ensures in
+    let e = rw (k.keeps_second-bare.ensures, k.keeps_shared-shared.ensures) at h in
+    beside-fills _ _ _ _ _ _ _ s.requires.fillable s.requires.placed _ _ _ s.requires.serves (tells s) _ _
+    e.0 (c.outcome.ensures ∙ ap (λ (n : ℕ). cond (ltb 0 n) Labelled Unlabelled) e.1)

@@ -1,0 +1,37 @@
+-- `fill_stretches::fill_stretch` meets its contract: both ways do.
+-- Assumes nothing.
+use borrow.Author.Rules.{rules}
+use lib.IntN.{pos}
+use mir.Facts.{sfits_lit}
+use mir.Syntax.{w64}
+use mir.Val.{SFits}
+use Rattle.integers.proofs.Machine.{plain, test-eq}
+use Rattle.fill_stretches.proofs.fill_stretch.Goals as goal
+use Rattle.fill_stretches.proofs.fill_stretch.Goals.{Start, Then-period-eq1}
+
+pub fill_one_cell-requires : goal.fill_one_cell-requires
+fill_one_cell-requires c =
+    let b = (goal.at.fill_one_cell-requires c).Then-period-eq1 in
+    let s = (goal.at.Then-period-eq1 b).Start in
+    let p = s.ranges.period in
+    let d = s.ranges.distance in
+    let o : SFits w64 (pos 1) = sfits_lit tt in
+    record { room = (simp plain (s.requires.room, (s.requires.follows, (test-eq w64 s.args.period (pos 1) p o).0 b.if-period-eq1.true))).0; follows = (simp plain (s.requires.room, (s.requires.follows, (test-eq w64 s.args.period (pos 1) p o).0 b.if-period-eq1.true))).1; period_value = (simp plain (s.requires.room, (s.requires.follows, (test-eq w64 s.args.period (pos 1) p o).0 b.if-period-eq1.true))).2 }
+
+pub returns-then-period-eq1 : goal.returns-then-period-eq1
+returns-then-period-eq1 c =
+    let s = (goal.at.returns-then-period-eq1 c).Start in
+    let z = s.ranges.cell in
+    let h = s.ranges.high in
+    let p = s.ranges.period in
+    let d = s.ranges.distance in
+    simp plain at c.fill_one_cell.ensures
+
+pub returns-else-period-eq1 : goal.returns-else-period-eq1
+returns-else-period-eq1 c =
+    let s = (goal.at.returns-else-period-eq1 c).Start in
+    let z = s.ranges.cell in
+    let h = s.ranges.high in
+    let p = s.ranges.period in
+    let d = s.ranges.distance in
+    simp plain at c.fill_along.ensures

@@ -1,0 +1,19 @@
+-- `fill_stretches::in_limits` meets its contract.
+-- Assumes nothing.
+use borrow.Author.Rules.{rules, sfits_of}
+use mathlib.Core.Path.{sym, ◌∙◌, ap}
+use mir.Syntax.{w64}
+use mir.Val.{SFits}
+use Rattle.integers.proofs.Machine.{plain}
+use Rattle.calendar.specs.Lists.{if_label}
+use Rattle.calendar.specs.Limits.{in_range}
+use Rattle.cursors.specs.Found.{found}
+use Rattle.fill_stretches.proofs.in_limits.Goals as goal
+use Rattle.fill_stretches.proofs.in_limits.Goals.{In-At}
+
+pub returns-in-At : goal.returns-in-At
+returns-in-At c =
+    let k = (goal.at.returns-in-At c).In-At in
+    let w : SFits w64 k.label-1.given.0.0 = sfits_of k.known_told-1.given.0.1 in
+    let e = simp plain at c.in_range.ensures in
+    e ∙ ap (λ x. if_label (found x) in_range) (sym k.label-1.given.1)

@@ -1,0 +1,179 @@
+-- `granule_ends::end_instant` meets its contract: it is a walk to the end of the granule.
+-- Assumes nothing.
+use borrow.Author.Rules.{rules, sfits_of}
+use mathlib.Core.Path.{◌≡◌, sym, ◌∙◌, ap}
+use mathlib.Core.Option.{some}
+use Prim.Native.Nat.{ℕ, ◌<◌, ◌^◌}
+use native.Mathlib.Omega.{arith}
+use lib.IntN.{ℤ}
+use mir.Facts.{to_z-of_z}
+use mir.Syntax.{w64}
+use mir.Val.{to_z, of_z, SFits}
+use Rattle.integers.specs.Parts.{up}
+use Rattle.integers.proofs.Linear.{ints, ◌∴◌}
+use Rattle.integers.proofs.Machine.{plain}
+use Rattle.calendar.specs.Meaning.{Row, meant}
+use Rattle.calendar.specs.Granules.{granule}
+use Rattle.calendar.specs.Questions.{given}
+use Rattle.granules.specs.Valid.{Valid}
+use Rattle.granules.proofs.Tests.{none≢some}
+use Rattle.cursors.specs.Found.{Sound, Within, Near, found}
+use Rattle.cursors.specs.Cursor.{cursor_at}
+use Rattle.cursors.specs.Direction.{stepped}
+use Rattle.cursors.proofs.Numbers.{numbers, valid}
+use Rattle.cursors.proofs.Direction.{away-near}
+use Rattle.granule_ends.specs.Ends.{end_of}
+use Rattle.granule_ends.proofs.Inputs.{read, read-sound, read-within, read-holds}
+use Rattle.granule_ends.proofs.Walks.{Walk, left, walk_start, walk-past, walk-to, walk_end, walk-less}
+use Rattle.granule_ends.proofs.end_instant.Goals as goal
+use Rattle.granule_ends.proofs.end_instant.Goals.{After-cursor_label-label, After-cursor_label-own, After-cursor_step-c, At-loop-k, In-At, In-At-label, Start as Start-place}
+
+-- the numbers as the machine has them
+abbrev Start : Type 0
+Start = Start-place
+
+abbrev P : Start → ℤ
+P c = read c.args.period
+
+abbrev N : Start → ℤ
+N c = read c.args.distance
+
+abbrev T : Start → ℤ
+T c = read c.args.t
+
+abbrev row : Start → Row
+row c = given (P c) (N c) c.args.cells.now
+
+sound : (c : Start) → Sound (P c) (N c) c.args.cells.now
+sound c = read-sound c.args.cells.now c.ranges.period c.ranges.distance c.requires.sound
+
+rules_own : (c : Start) → Valid (row c)
+rules_own c = valid (P c) (N c) c.args.cells.now (sound c)
+
+near-start : (c : Start) → Within (2 ^ 59) (T c)
+near-start c = read-within c.ranges.t c.requires.labelled.1
+
+near : (c : Start) → Near (T c)
+near c = near-start c ∴ simp ints (omega arith)
+
+pub cursor_at-c-requires : goal.cursor_at-c-requires
+cursor_at-c-requires c = record { sound = sound c; near = near c }
+
+pub cursor_label-own-requires : goal.cursor_label-own-requires
+cursor_label-own-requires c = record { sound = sound (goal.at.cursor_label-own-requires c).Start; standing = (T (goal.at.cursor_label-own-requires c).Start, near (goal.at.cursor_label-own-requires c).Start, c.cursor_at-c.ensures) }
+
+pub returns-in_default : goal.returns-in_default
+returns-in_default c j e =
+    let l = (goal.at.returns-in_default c).After-cursor_label-own in
+    let s = (goal.at.After-cursor_label-own l).Start in
+    let p = s.ranges.period in
+    let d = s.ranges.distance in
+    let t = s.ranges.t in
+    let h = simp plain at (l.cursor_label-own.ensures (T s) l.cursor_at-c.ensures) in
+    absurd (none≢some (ap found (sym c.enum_told-1.given.1) ∙ h ∙ e))
+
+-- the label of t
+own-fits : (c : In-At) → SFits w64 c.own-1.given.0.0
+own-fits c = sfits_of c.known_told-1.given.0.1
+
+own-label : (c : In-At) → meant (row (goal.at.In-At c).Start) (T (goal.at.In-At c).Start) ≡ some (to_z w64 (of_z w64 c.own-1.given.0.0))
+own-label c =
+    let l = (goal.at.In-At c).After-cursor_label-own in
+    let s = (goal.at.After-cursor_label-own l).Start in
+    sym (l.cursor_label-own.ensures (T s) l.cursor_at-c.ensures) ∙ ap found c.own-1.given.1 ∙ ap some (sym (to_z-of_z (own-fits c)))
+
+pub loop-k-init : goal.loop-k-init
+loop-k-init c =
+    let s = (goal.at.loop-k-init c).Start in
+    walk_start (row s) (rules_own s) s.args.back (T s) _ _ c.cursor_at-c.ensures (own-label c)
+
+-- where the walk is
+abbrev begun : At-loop-k → Start
+begun c = (goal.at.At-loop-k c).Start
+
+abbrev here : At-loop-k → ℤ
+here c = to_z w64 c.loop-k.at-bits
+
+-- and where it goes
+abbrev there : At-loop-k → ℤ
+there c = stepped (begun c).args.back (here c)
+
+near-walk : (c : At-loop-k) → Near (here c) × Near (there c)
+near-walk c =
+    let s = begun c in
+    let n = numbers (P s) (N s) s.args.cells.now (sound s) in
+    away-near s.args.back (T s) (here c) (up (P s)) (near-start s) n.high c.loop-k.invariant.low c.loop-k.invariant.high
+
+pub cursor_step-c-requires : goal.cursor_step-c-requires
+cursor_step-c-requires c = record { sound = sound (begun c); standing = (here c, (near-walk c).0, c.loop-k.invariant.cursor) }
+
+pub step-at-requires : goal.step-at-requires
+step-at-requires c = (near-walk (goal.at.step-at-requires c).At-loop-k).0
+
+moved : (c : After-cursor_step-c) → c.cursor_step-c.result ≡ cursor_at (row (begun (goal.at.After-cursor_step-c c).At-loop-k)) (there (goal.at.After-cursor_step-c c).At-loop-k)
+moved c = c.cursor_step-c.ensures (here (goal.at.After-cursor_step-c c).At-loop-k) c.loop-k.invariant.cursor
+
+pub cursor_label-label-requires : goal.cursor_label-label-requires
+cursor_label-label-requires c = let l = (goal.at.cursor_label-label-requires c).At-loop-k in record { sound = sound (begun l); standing = (there l, (near-walk l).1, moved (goal.at.cursor_label-label-requires c).After-cursor_step-c) }
+
+-- the next instant of the walk, as the machine has it, with its cursor and its label
+abbrev at-loop : After-cursor_label-label → At-loop-k
+at-loop d = (goal.at.After-cursor_label-label d).At-loop-k
+
+abbrev start : After-cursor_label-label → Start
+start d = begun (at-loop d)
+
+abbrev instant : After-cursor_label-label → ℤ
+instant d = to_z w64 (of_z w64 d.step-at.result)
+
+instant-is : (d : After-cursor_label-label) → instant d ≡ there (at-loop d)
+instant-is d = to_z-of_z {w = w64} (sfits_of d.step-at.type_inv) ∙ d.step-at.ensures
+
+cursor-is : (d : After-cursor_label-label) → d.cursor_step-c.result ≡ cursor_at (row (start d)) (instant d)
+cursor-is d = moved (goal.at.After-cursor_label-label d).After-cursor_step-c ∙ ap (cursor_at (row (start d))) (sym (instant-is d))
+
+label_is : (d : After-cursor_label-label) → meant (row (start d)) (instant d) ≡ found d.cursor_label-label.result
+label_is d = ap (meant (row (start d))) (instant-is d) ∙ sym (d.cursor_label-label.ensures (there (at-loop d)) (moved (goal.at.After-cursor_label-label d).After-cursor_step-c))
+
+-- where it has one
+label-fits : (c : In-At-label) → SFits w64 c.label-1.given.0.0
+label-fits c = sfits_of c.known_told-in-At-label-1.given.0.1
+
+label-some : (c : In-At-label) → meant (row (start (goal.at.In-At-label c).After-cursor_label-label)) (instant (goal.at.In-At-label c).After-cursor_label-label) ≡ some (to_z w64 (of_z w64 c.label-1.given.0.0))
+label-some c =
+    label_is (goal.at.In-At-label c).After-cursor_label-label
+    ∙ ap found c.label-1.given.1
+    ∙ ap some (sym (to_z-of_z (label-fits c)))
+
+pub returns-then-k-j : goal.returns-then-k-j
+returns-then-k-j c j e =
+    let d = (goal.at.returns-then-k-j c).After-cursor_label-label in
+    let s = start d in
+    let b = (at-loop d).loop.invariant in
+    let k = label-fits (goal.at.returns-then-k-j c).In-At-label in
+    let o = own-fits (at-loop d).before in
+    let f =
+    walk_end (row s) (rules_own s) s.args.back (T s) _ _ _ _ (instant d) _ b (cursor-is d) (instant-is d) _ (label-some (goal.at.returns-then-k-j c).In-At-label)
+    (λ q. c.if-k-j.true (ap (of_z w64) (sym (to_z-of_z k) ∙ q ∙ to_z-of_z o))) in
+    read-holds s.args.cells.now s.ranges.period s.ranges.distance s.ranges.t (λ r u i. to_z w64 (at-loop d).loop.end ≡ end_of s.args.back (granule r i)) f b.own-1 e
+
+less : (d : After-cursor_label-label) → let s = start d in left s.args.back (up (P s)) (T s) (instant d) < left s.args.back (up (P s)) (T s) (here (at-loop d))
+less d = walk-less (row (start d)) (rules_own (start d)) (start d).args.back (T (start d)) _ _ _ _ (instant d) _ (at-loop d).loop.invariant (cursor-is d) (instant-is d)
+
+pub loop-k-smaller-in-At-label : goal.loop-k-smaller-in-At-label
+loop-k-smaller-in-At-label c = less (goal.at.loop-k-smaller-in-At-label c).After-cursor_label-label
+
+pub loop-k-preserved-in-At-label : goal.loop-k-preserved-in-At-label
+loop-k-preserved-in-At-label c =
+    let d = (goal.at.loop-k-preserved-in-At-label c).After-cursor_label-label in
+    let s = start d in
+    walk-to (row s) (rules_own s) s.args.back (T s) _ _ _ _ (instant d) _ (at-loop d).loop.invariant (cursor-is d) (instant-is d) (label-some (goal.at.loop-k-preserved-in-At-label c).In-At-label ∙ ap (λ (n : ℕ). some (to_z w64 n)) c.if-k-j.false)
+
+pub loop-k-smaller : goal.loop-k-smaller
+loop-k-smaller c = less (goal.at.loop-k-smaller c).After-cursor_label-label
+
+pub loop-k-preserved : goal.loop-k-preserved
+loop-k-preserved c =
+    let d = (goal.at.loop-k-preserved c).After-cursor_label-label in
+    let s = start d in
+    walk-past (row s) (rules_own s) s.args.back (T s) _ _ _ _ (instant d) _ (at-loop d).loop.invariant (cursor-is d) (instant-is d) (label_is d ∙ ap found c.enum_told-in-Nothing-1.given.1)

@@ -1,0 +1,62 @@
+-- `headings::convert_made` meets its contract: the numbers behind those that are lent are zero, as they are past the last entry.
+-- Assumes nothing.
+use borrow.Author.Rules.{rules}
+use mathlib.Core.Path.{◌≡◌, sym, ◌∙◌, ap, ap₂}
+use mathlib.Core.List.{List, ◌++◌}
+use mathlib.Core.Logic.{⊎_elim}
+use Prim.Native.Nat.{ℕ, ◌*◌, ◌/◌, ◌≤◌}
+use native.Mathlib.Omega.{arith}
+use lib.IntN.{ℤ}
+use lib.ListN.{length, take, drop, replicate}
+use lib.Seq.{length-take-le}
+use Rattle.calendar.specs.Limits.{entry_limit, heading_length}
+use Rattle.calendar.specs.Outcome.{outcome}
+use Rattle.calendar.specs.Stored.{headings_after, pool_after}
+use Rattle.conversion.specs.declared.Conversion.{Conversion}
+use Rattle.conversion.specs.Answers.{answered}
+use Rattle.conversion.specs.Left.{Left}
+use Rattle.headings.proofs.Plain.{Asked, asked-all, asked-most, outcome-numbers}
+use Rattle.headings.proofs.convert_made.Goals as goal
+use Rattle.headings.proofs.convert_made.Goals.{After-convert-answer, After-row_known-1}
+
+-- the entries that numbers are lent for
+asked : (c : After-row_known-1) → Asked c.args.lent c.if-lent-lt-ENTRY_LIMIT.entries
+asked c = ⊎_elim (λ w. asked-all _ _ w.0.taken w.1) (λ w. asked-most _ _ w.0.left w.1) c.if-lent-lt-ENTRY_LIMIT.branch-raw
+
+abbrev plain : List ℕ
+plain = replicate (heading_length * entry_limit) 0
+
+-- the numbers that are lent
+lent : (m : ℕ) → m ≤ entry_limit → length (take (heading_length * m) plain) ≡ heading_length * m
+lent m h = length-take-le (heading_length * m) plain (omega arith)
+
+-- what the callee ensures, read at all numbers
+made : (t : List ℤ) (n m p : ℕ) → Asked n m → (k : ℕ) → k ≡ heading_length * m → (r : Conversion) (numbers : List ℕ) (pool : List ℤ)
+    → Left t k p r numbers pool
+    → (r ≡ answered (outcome t n p)) × (numbers ++ drop (heading_length * m) plain ≡ headings_after (heading_length * entry_limit) (outcome t n p)) × (pool ≡ pool_after p (outcome t n p))
+made t n m p a k e r numbers pool h =
+    let q : k / heading_length ≡ m = omega arith in
+    let o : outcome t (k / heading_length) p ≡ outcome t n p = ap (λ (i : ℕ). outcome t i p) q ∙ a.alike t p in
+    let all = outcome-numbers t m p a.few in (
+      h.answer ∙ ap answered o,
+      ap (λ (x : List ℕ). x ++ drop (heading_length * m) plain) (h.numbers ∙ ap₂ (λ (i : ℕ) (j : ℕ). headings_after i (outcome t j p)) e q) ∙ all ∙ ap (headings_after (heading_length * entry_limit)) (a.alike t p),
+      h.cells ∙ ap (pool_after p) o,
+    )
+
+pub overflow_mul-plain : goal.overflow_mul-plain
+overflow_mul-plain c = record { fits = omega (arith, (asked c).few) }
+
+pub slice_bounds-plain-end : goal.slice_bounds-plain-end
+slice_bounds-plain-end c = omega (arith, (asked c).few)
+
+pub slice_bounds-convert-end : goal.slice_bounds-convert-end
+slice_bounds-convert-end c = sym (lent c.if-lent-lt-ENTRY_LIMIT.entries (asked (goal.at.slice_bounds-convert-end c).After-row_known-1).few)
+
+pub returns : goal.returns
+returns c =
+    let b = (goal.at.returns c).After-convert-answer in
+    let k = (goal.at.After-convert-answer b).After-row_known-1 in
+    let x = k.args in
+    made x.table.now x.lent k.if-lent-lt-ENTRY_LIMIT.entries (length x.pool.now) (asked k) _ (lent _ (asked k).few)
+    b.convert-answer.result b.convert-answer.new.headings b.convert-answer.new.pool
+    b.convert-answer.ensures

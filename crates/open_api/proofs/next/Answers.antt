@@ -1,0 +1,25 @@
+-- `open_api::next` meets its contract: the code and the instant of what `open_map::next` answers.
+-- Assumes nothing.
+use borrow.Author.Rules.{rules, sfits_of}
+use mathlib.Core.Path.{◌≡◌, ◌∙◌, ap}
+use mir.Facts.{to_z-of_z}
+use Rattle.integers.proofs.Machine.{plain}
+use Rattle.codes.specs.Codes.{value_code, value_left}
+use Rattle.open_map.specs.Maps.{map_given}
+use Rattle.open_map.specs.Inquiries.{next_reply}
+use Rattle.open_map.specs.Answers.{instant_reply}
+use Rattle.open_api.proofs.next.Goals as goal
+use Rattle.open_api.proofs.next.Goals.{After-next-instant, Start}
+
+replied : (c : After-next-instant) → let s = (goal.at.After-next-instant c).Start in
+    instant_reply c.next-instant.result ≡ next_reply (map_given s.args.period s.args.words.now) s.args.x
+replied c =
+    let s = (goal.at.After-next-instant c).Start in
+    let p = s.ranges.period in
+    let f = s.ranges.x in
+    simp plain at c.next-instant.ensures
+
+pub returns : goal.returns
+returns c =
+    let e = replied (goal.at.returns c).After-next-instant in
+    record { code = to_z-of_z {w = w64} (sfits_of c.told.type_inv) ∙ c.told.ensures.code ∙ ap value_code e; found = c.told.ensures.found ∙ ap value_left e }

@@ -1,0 +1,118 @@
+-- `open_map::finding::last_of` meets its contract: a set cell in the turn, or the last of the turn before.
+-- Assumes nothing.
+use mathlib.Core.Path.{◌≡◌, ◌∙◌, sym, ap, subst}
+use Prim.Native.Nat.{◌^◌, ◌≤◌}
+use native.Mathlib.Omega.{arith}
+use borrow.Author.Rules.{rules, sfits_of}
+use lib.IntN.{ℤ, pos, ◌+ℤ◌, ◌-ℤ◌, ◌*ℤ◌}
+use mir.Facts.{to_z-of_z}
+use mir.Syntax.{w64}
+use mir.Val.{SFits}
+use Rattle.integers.specs.Parts.{up}
+use Rattle.integers.proofs.Linear.{ints, ◌∴◌}
+use Rattle.integers.proofs.Machine.{plain}
+use Rattle.calendar.specs.Limits.{pool_limit}
+use Rattle.cursors.specs.Found.{Within}
+use Rattle.words.specs.Bits.{cell}
+use Rattle.words.specs.Places.{Greatest}
+use Rattle.bitmaps.specs.Cells.{LastBelow}
+use Rattle.open_map.proofs.Given.{Given, given, turning, within}
+use Rattle.open_map.proofs.Numbers.{Placed, placed}
+use Rattle.open_map.proofs.Found.{set_below, last-here, last_turn}
+use Rattle.open_map.proofs.finding.last_of.Goals as goal
+use Rattle.open_map.proofs.finding.last_of.Goals.{After-last_below-place, After-last_cell-last, After-turn_of-at, In-At, In_default, Start}
+
+known : (s : Start) → Given s.args.period s.args.words.now
+known s = given s.args.period s.args.words.now s.requires.sound
+
+pub turn_of-at-requires : goal.turn_of-at-requires
+turn_of-at-requires c =
+    let s = (goal.at.turn_of-at-requires c).Start in
+    let p = s.ranges.period in
+    simp plain (turning s.args.period s.args.words.now (known s))
+
+there : (c : After-turn_of-at) → Placed (up c.args.period) c.args.x c.turn_of-at.result
+there c =
+    let s = (goal.at.After-turn_of-at c).Start in
+    let p = s.ranges.period in
+    let x = s.ranges.x in
+    placed (up s.args.period) (known s).low (known s).high s.args.x (s.requires.within ∴ simp ints (omega arith)) c.turn_of-at.result (simp plain at c.turn_of-at.ensures)
+
+pub last_below-place-requires : goal.last_below-place-requires
+last_below-place-requires c =
+    let s = (goal.at.last_below-place-requires c).Start in
+    within s.args.period s.args.words.now (known s) c.turn_of-at.result.cell (omega (arith, (there (goal.at.last_below-place-requires c).After-turn_of-at).below))
+
+pub last_cell-last-requires : goal.last_cell-last-requires
+last_cell-last-requires c =
+    let s = (goal.at.last_cell-last-requires c).Start in
+    let p = s.ranges.period in
+    simp plain s.requires.sound
+
+-- no cell is set in this turn: the turn beside it
+beside : (c : After-last_cell-last) → let a = (goal.at.After-last_cell-last c).After-turn_of-at in Within (2 ^ 34) (a.turn_of-at.result.turn -ℤ pos 1)
+beside c = (there (goal.at.After-last_cell-last c).After-turn_of-at).near ∴ simp ints (omega arith)
+
+beside-fits : (c : After-last_cell-last) → let a = (goal.at.After-last_cell-last c).After-turn_of-at in SFits w64 (a.turn_of-at.result.turn -ℤ pos 1)
+beside-fits c = beside c ∴ simp ints (omega arith)
+
+pub overflow_sub-turn : goal.overflow_sub-turn
+overflow_sub-turn c = let f = (there (goal.at.overflow_sub-turn c).After-turn_of-at).turn-fits in simp plain (beside-fits c)
+
+there-cell : (c : After-last_cell-last) → c.last_cell-last.result ≤ pool_limit
+there-cell c =
+    let s = (goal.at.After-last_cell-last c).Start in
+    omega (arith, (known s).high, set_below s.args.period s.args.words.now (known s) c.last_cell-last.result c.last_cell-last.ensures.set)
+
+pub composed-requires : goal.composed-requires
+composed-requires c =
+    let s = (goal.at.composed-requires c).Start in
+    let p = s.ranges.period in
+    let f = (there (goal.at.composed-requires c).After-turn_of-at).turn-fits in
+    let b = beside-fits c in
+    record { turning = (simp plain (turning s.args.period s.args.words.now (known s), (beside c ∴ simp ints (omega arith), omega (arith, there-cell c)))).0; within = (simp plain (turning s.args.period s.args.words.now (known s), (beside c ∴ simp ints (omega arith), omega (arith, there-cell c)))).1 }
+
+pub returns-in_default : goal.returns-in_default
+returns-in_default c =
+    let d = (goal.at.returns-in_default c).After-last_cell-last in
+    let e = (goal.at.After-last_cell-last d).In_default in
+    let k = (goal.at.In_default e).After-last_below-place in
+    let a = (goal.at.After-last_below-place k).After-turn_of-at in
+    let s = (goal.at.After-turn_of-at a).Start in
+    let l = s.args.words.now in
+    let r = a.turn_of-at.result in
+    let p = s.ranges.period in
+    let f = (there a).turn-fits in
+    let b = beside-fits d in
+    let i : c.composed.result ≡ s.args.period *ℤ (r.turn -ℤ pos 1) +ℤ pos d.last_cell-last.result = simp plain at c.composed.ensures in
+    to_z-of_z {w = w64} (sfits_of c.composed.type_inv) ∙ i ∙ ap (λ (z : ℤ). z *ℤ (r.turn -ℤ pos 1) +ℤ pos d.last_cell-last.result) (known s).period-is
+    ∙ sym (last_turn s.args.period l (known s) s.args.x r.turn r.cell d.last_cell-last.result (there a).is (there a).below
+    (subst (LastBelow l r.cell) e.enum_told-1.given.1 k.last_below-place.ensures) (simp plain at d.last_cell-last.ensures))
+
+-- a cell of this turn
+found : (c : In-At) → let a = (goal.at.In-At c).After-turn_of-at in Greatest (cell a.args.words.now) a.turn_of-at.result.cell c.place-1.given.0.0
+found c =
+    let k = (goal.at.In-At c).After-last_below-place in
+    let a = (goal.at.After-last_below-place k).After-turn_of-at in
+    subst (LastBelow a.args.words.now a.turn_of-at.result.cell) c.place-1.given.1 k.last_below-place.ensures
+
+pub composed-requires-2 : goal.composed-requires-2
+composed-requires-2 c =
+    let a = (goal.at.composed-requires-2 c).After-turn_of-at in
+    let s = (goal.at.After-turn_of-at a).Start in
+    let p = s.ranges.period in
+    let f = (there a).turn-fits in
+    record { turning = (simp plain (turning s.args.period s.args.words.now (known s), ((there a).near ∴ simp ints (omega arith), omega (arith, (known s).high, set_below s.args.period s.args.words.now (known s) c.place-1.given.0.0 (found c).set)))).0; within = (simp plain (turning s.args.period s.args.words.now (known s), ((there a).near ∴ simp ints (omega arith), omega (arith, (known s).high, set_below s.args.period s.args.words.now (known s) c.place-1.given.0.0 (found c).set)))).1 }
+
+pub returns : goal.returns
+returns c =
+    let d = (goal.at.returns c).In-At in
+    let a = (goal.at.In-At d).After-turn_of-at in
+    let s = (goal.at.After-turn_of-at a).Start in
+    let r = a.turn_of-at.result in
+    let n = d.place-1.given.0.0 in
+    let p = s.ranges.period in
+    let f = (there a).turn-fits in
+    let i : c.composed-2.result ≡ s.args.period *ℤ r.turn +ℤ pos n = simp plain at c.composed-2.ensures in
+    to_z-of_z {w = w64} (sfits_of c.composed-2.type_inv) ∙ i ∙ ap (λ (z : ℤ). z *ℤ r.turn +ℤ pos n) (known s).period-is
+    ∙ sym (last-here s.args.period s.args.words.now (known s) s.args.x r.turn r.cell n (there a).is (there a).below (found d))

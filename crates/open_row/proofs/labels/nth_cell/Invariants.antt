@@ -1,0 +1,24 @@
+-- `open_row::labels::nth_cell` meets its contract: the loop counts the labels of the blocks that it passes.
+-- Assumes nothing.
+use mathlib.Core.Path.{◌≡◌, ap, subst}
+use mathlib.Core.List.{List}
+use Prim.Native.Nat.{ℕ, ◌+◌, ◌-◌, ◌≤◌}
+use native.Mathlib.Omega.{arith}
+use lib.IntN.{ℤ}
+use lib.ListN.{length}
+use Rattle.open_steps.specs.Ranked.{Nth}
+use Rattle.words.proofs.Tally.{tally-zero}
+use Rattle.row_maps.specs.Making.{labelled}
+use Rattle.open_row.specs.Shown.{labelled_before}
+use Rattle.open_row.proofs.labels.nth_cell.Given as goal
+
+pub record Inv (cells : List ℤ) (k left i : ℕ) : Type 0 where
+  pub within : i ≤ length cells
+  pub rank : labelled_before cells i + left ≡ k
+
+abbrev pub invariant-loop-i : goal.invariant-loop-i
+invariant-loop-i l = Inv l.cells l.k l.left l.i
+
+abbrev pub decreases-loop-i : goal.decreases-loop-i
+decreases-loop-i l = length l.cells - l.i
+

@@ -1,0 +1,64 @@
+-- `open_steps::steps::between_of` meets its contract: a difference of ranks.
+-- Assumes nothing.
+use mathlib.Core.Path.{◌≡◌, ◌∙◌, sym}
+use Prim.Native.Nat.{◌^◌}
+use native.Mathlib.Omega.{arith}
+use borrow.Author.Rules.{sfits_of}
+use lib.IntN.{pos, ◌+ℤ◌, ◌-ℤ◌}
+use mir.Facts.{to_z-of_z}
+use mir.Syntax.{w64}
+use mir.Val.{SFits}
+use Rattle.integers.proofs.Linear.{ints, ◌∴◌}
+use Rattle.integers.proofs.Machine.{plain}
+use Rattle.calendar.specs.Limits.{in_range}
+use Rattle.granules.proofs.Tests.{and-iff}
+use Rattle.cursors.specs.Found.{Within}
+use Rattle.cursors.proofs.Bounds.{in-range}
+use Rattle.open_map.specs.Maps.{map_given, is_open}
+use Rattle.open_map.specs.Turns.{rank}
+use Rattle.open_map.proofs.Given.{given}
+use Rattle.open_map.proofs.Shown.{rank_step}
+use Rattle.open_steps.proofs.Ranks.{between-open}
+use Rattle.open_steps.proofs.steps.between_of.Goals as goal
+use Rattle.open_steps.proofs.steps.between_of.Goals.{Start}
+
+-- the instants behind x and y are near
+near : (s : Start) → Within (2 ^ 32) (s.args.x +ℤ pos 1) × Within (2 ^ 32) (s.args.y +ℤ pos 1)
+near s =
+    let a = (and-iff (in_range s.args.x) (in_range s.args.y)).0 s.requires.y_value in
+    ((in-range s.args.x).0 a.0 ∴ simp ints (omega arith), (in-range s.args.y).0 a.1 ∴ simp ints (omega arith))
+
+x_fits : (s : Start) → SFits w64 (s.args.x +ℤ pos 1)
+x_fits s = (near s).0 ∴ simp ints (omega arith)
+
+y-fits : (s : Start) → SFits w64 (s.args.y +ℤ pos 1)
+y-fits s = (near s).1 ∴ simp ints (omega arith)
+
+pub overflow_add-x : goal.overflow_add-x
+overflow_add-x c = let x = c.ranges.x in simp plain (x_fits (goal.at.overflow_add-x c).Start)
+
+pub overflow_add-y : goal.overflow_add-y
+overflow_add-y c = let y = c.ranges.y in simp plain (y-fits (goal.at.overflow_add-y c).Start)
+
+pub risen-requires : goal.risen-requires
+risen-requires c =
+    let s = (goal.at.risen-requires c).Start in
+    let p = s.ranges.period in
+    let f = s.ranges.x in
+    let g = s.ranges.y in
+    let x = x_fits s in
+    let y = y-fits s in
+    record { sound = (simp plain (s.requires.sound, near s)).0; within = (simp plain (s.requires.sound, near s)).1 }
+
+pub returns : goal.returns
+returns c =
+    let s = (goal.at.returns c).Start in
+    let m = map_given s.args.period s.args.words.now in
+    let p = s.ranges.period in
+    let f = s.ranges.x in
+    let g = s.ranges.y in
+    let x = x_fits s in
+    let y = y-fits s in
+    let e : c.risen.result ≡ rank m (s.args.y +ℤ pos 1) -ℤ rank m (s.args.x +ℤ pos 1) = simp plain at c.risen.ensures in
+    let step = rank_step m (given s.args.period s.args.words.now s.requires.sound).low in
+    to_z-of_z {w = w64} (sfits_of c.risen.type_inv) ∙ e ∙ sym (between-open (is_open m) (rank m) step s.args.x s.args.y)

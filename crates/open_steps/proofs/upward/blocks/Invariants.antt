@@ -1,0 +1,15 @@
+-- `open_steps::upward::blocks` meets its contract. The loop's invariant: `left` set cells are to be passed from `word` on.
+-- Assumes nothing.
+use mathlib.Core.Path.{◌≡◌}
+use Prim.Native.Nat.{◌+◌, ◌*◌, ◌-◌, ◌≤◌}
+use native.Mathlib.Omega.{arith}
+use lib.ListN.{length}
+use Rattle.words.specs.Bits.{cell, tally}
+use Rattle.open_steps.proofs.upward.blocks.Given as goal
+
+abbrev pub invariant-loop-word : goal.invariant-loop-word
+invariant-loop-word l = (l.word ≤ length l.words) × (tally (cell l.words) (64 * l.word) + l.left ≡ tally (cell l.words) (64 * l.i) + l.k)
+
+abbrev pub decreases-loop-word : goal.decreases-loop-word
+decreases-loop-word l = length l.words - l.word
+

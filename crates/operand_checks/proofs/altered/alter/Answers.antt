@@ -1,0 +1,117 @@
+-- `operand_checks::altered::alter` meets its contract: check 8 for the span stands before the others.
+-- Assumes nothing.
+use mathlib.Core.Path.{◌≡◌, sym, ◌∙◌}
+use Prim.Native.Nat.{ℕ}
+use borrow.Author.Rules.{rules}
+use lib.Dec.{leb}
+use Rattle.integers.specs.Parts.{up}
+use Rattle.integers.specs.Capped.{capped_at}
+use Rattle.integers.specs.declared.Capped.TheVariants.{Within}
+use Rattle.integers.proofs.Machine.{plain}
+use Rattle.calendar.specs.Meaning.{Row}
+use Rattle.calendar.specs.Size.{turn, span_of}
+use Rattle.calendar.specs.Questions.{given}
+use Rattle.calendar.specs.Reply.{require}
+use Rattle.alignment.proofs.Rising.{limited}
+use Rattle.alter_granules.specs.Given.{altering}
+use Rattle.operand_checks.specs.Admission.{admission}
+use Rattle.operand_checks.specs.Shared.{behind_span}
+use Rattle.operand_checks.proofs.Spans.{capped-past, capped-passes, capped-half, capped_fits, capped-spanned}
+use Rattle.granules.proofs.Replies.{passed, failed}
+use Rattle.operand_checks.proofs.Replies.{alter-is}
+use Rattle.operand_checks.proofs.altered.alter.Goals as goal
+use Rattle.operand_checks.proofs.altered.alter.Goals.{After-span_of-capped, In-Within, Start}
+
+abbrev row-a : Start → Row
+row-a s = given s.args.a_period s.args.a_distance s.args.a_cells.now
+
+abbrev row-b : Start → Row
+row-b s = given s.args.b_period s.args.b_distance s.args.b_cells.now
+
+abbrev span : Start → ℕ
+span s = span_of (turn (row-a s)) (turn (row-b s))
+
+checks : (s : Start) → let o = altering s.args.by (row-a s) (row-b s) in
+    admission o (up s.args.room) ≡ require 8 (leb (span s) (up s.args.room)) (behind_span o (up s.args.room))
+checks s =
+    let by = s.args.by in
+    let p = s.requires.a_cells_value in
+    alter-is (row-a s) (row-b s) (up s.args.room) (up by.x) (up by.y) by.z p.0 p.1
+
+pub span_of-capped-requires : goal.span_of-capped-requires
+span_of-capped-requires c =
+    let s = c in
+    let r = s.ranges.room in
+    let p = s.ranges.a_period in
+    let n = s.ranges.a_distance in
+    let q = s.ranges.b_period in
+    let m = s.ranges.b_distance in
+    record { room = (simp plain (s.requires.room, (limited _ _ _ s.requires.sound, limited _ _ _ s.requires.sound_2))).0; limited = (simp plain (s.requires.room, (limited _ _ _ s.requires.sound, limited _ _ _ s.requires.sound_2))).1; limited_2 = (simp plain (s.requires.room, (limited _ _ _ s.requires.sound, limited _ _ _ s.requires.sound_2))).2 }
+
+capped_is : (c : After-span_of-capped) → let s = (goal.at.After-span_of-capped c).Start in c.Span-of.result ≡ capped_at (up s.args.room) (span s)
+capped_is c =
+    let s = (goal.at.After-span_of-capped c).Start in
+    let r = s.ranges.room in
+    let p = s.ranges.a_period in
+    let n = s.ranges.a_distance in
+    let q = s.ranges.b_period in
+    let m = s.ranges.b_distance in
+    simp plain at c.Span-of.ensures
+
+pub returns-in_default : goal.returns-in_default
+returns-in_default c =
+    let t = (goal.at.returns-in_default c).After-span_of-capped in
+    let s = (goal.at.After-span_of-capped t).Start in
+    sym (checks s ∙ failed 8 _ (capped-past _ _ (sym (capped_is t) ∙ c.enum_told-1.given.1)))
+
+within : (c : In-Within) → let s = (goal.at.In-Within c).Start in
+    capped_at (up s.args.room) (span s) ≡ Within c.capped-1.given.0.0
+within c = sym (capped_is (goal.at.In-Within c).After-span_of-capped) ∙ c.capped-1.given.1
+
+pub overflow_cast-s : goal.overflow_cast-s
+overflow_cast-s c = capped_fits c.requires.room _ (within c)
+
+pub aligned-requires : goal.aligned-requires
+aligned-requires c =
+    let s = (goal.at.aligned-requires c).Start in
+    let h = capped-half s.requires.room _ (within c) in
+    let r = s.ranges.room in
+    let p = s.ranges.a_period in
+    let n = s.ranges.a_distance in
+    let q = s.ranges.b_period in
+    let m = s.ranges.b_distance in
+    let k = s.requires.sound in
+    record { limits = (simp plain (
+      s.requires.limits,
+      (s.requires.room, (k.0, (k.1.0, (k.1.1.0, (k.1.1.1, capped-spanned (row-a s) (row-b s) s.requires.room (within c)))))),
+    )).0; room = (simp plain (
+      s.requires.limits,
+      (s.requires.room, (k.0, (k.1.0, (k.1.1.0, (k.1.1.1, capped-spanned (row-a s) (row-b s) s.requires.room (within c)))))),
+    )).1; sound = (simp plain (
+      s.requires.limits,
+      (s.requires.room, (k.0, (k.1.0, (k.1.1.0, (k.1.1.1, capped-spanned (row-a s) (row-b s) s.requires.room (within c)))))),
+    )).2; sound_2 = (simp plain (
+      s.requires.limits,
+      (s.requires.room, (k.0, (k.1.0, (k.1.1.0, (k.1.1.1, capped-spanned (row-a s) (row-b s) s.requires.room (within c)))))),
+    )).3; a_cells_value = (simp plain (
+      s.requires.limits,
+      (s.requires.room, (k.0, (k.1.0, (k.1.1.0, (k.1.1.1, capped-spanned (row-a s) (row-b s) s.requires.room (within c)))))),
+    )).4; b_cells_value = (simp plain (
+      s.requires.limits,
+      (s.requires.room, (k.0, (k.1.0, (k.1.1.0, (k.1.1.1, capped-spanned (row-a s) (row-b s) s.requires.room (within c)))))),
+    )).5; spanned = (simp plain (
+      s.requires.limits,
+      (s.requires.room, (k.0, (k.1.0, (k.1.1.0, (k.1.1.1, capped-spanned (row-a s) (row-b s) s.requires.room (within c)))))),
+    )).6 }
+
+pub returns : goal.returns
+returns c =
+    let k = (goal.at.returns c).In-Within in
+    let s = (goal.at.In-Within k).Start in
+    let r = s.ranges.room in
+    let p = s.ranges.a_period in
+    let n = s.ranges.a_distance in
+    let q = s.ranges.b_period in
+    let m = s.ranges.b_distance in
+    simp plain at c.aligned.ensures
+    ∙ sym (checks s ∙ passed 8 _ (capped-passes _ _ (within k)))

@@ -1,0 +1,110 @@
+-- `operand_checks::spanning::spanned` meets its contract: its tests are those of checks 8 and 9, in their order.
+-- Assumes nothing.
+use mathlib.Core.Path.{◌≡◌, sym, ◌∙◌, ap}
+use mathlib.Core.Bool.{Bool}
+use native.Mathlib.Omega.{arith}
+use borrow.Author.Rules.{rules}
+use Rattle.integers.specs.Parts.{up}
+use Rattle.integers.specs.Capped.{capped_at}
+use Rattle.integers.specs.declared.Capped.TheVariants.{Within}
+use Rattle.integers.proofs.Linear.{ints}
+use Rattle.integers.proofs.Cap.{within-is}
+use Rattle.integers.proofs.Machine.{plain}
+use Rattle.calendar.specs.Meaning.{Row}
+use Rattle.calendar.specs.Size.{turn, span_of}
+use Rattle.calendar.specs.Checks.{aligned_as}
+use Rattle.calendar.specs.Questions.{given}
+use Rattle.alignment.proofs.Rising.{limited}
+use Rattle.calendar.specs.Reply.Reply.{answer}
+use Rattle.alignment.specs.Fits.{alignment_of}
+use Rattle.operand_checks.specs.Shared.{over_span}
+use Rattle.operand_checks.proofs.Spans.{capped-past, capped-passes, capped-half, capped_fits, capped-spanned}
+use Rattle.granules.proofs.Replies.{passed, failed}
+use Rattle.operand_checks.proofs.spanning.spanned.Goals as goal
+use Rattle.operand_checks.proofs.spanning.spanned.Goals.{After-aligned, After-span_of-capped, In-Within, Start}
+
+pub span_of-capped-requires : goal.span_of-capped-requires
+span_of-capped-requires s =
+    let r = s.ranges.room in
+    let p = s.ranges.a_period in
+    let n = s.ranges.a_distance in
+    let q = s.ranges.b_period in
+    let m = s.ranges.b_distance in
+    record { room = (simp plain (s.requires.room, (limited _ _ _ s.requires.sound, limited _ _ _ s.requires.sound_2))).0; limited = (simp plain (s.requires.room, (limited _ _ _ s.requires.sound, limited _ _ _ s.requires.sound_2))).1; limited_2 = (simp plain (s.requires.room, (limited _ _ _ s.requires.sound, limited _ _ _ s.requires.sound_2))).2 }
+
+-- the operands
+abbrev row-a : Start → Row
+row-a s = given s.args.a_period s.args.a_distance s.args.a_cells.now
+
+abbrev row-b : Start → Row
+row-b s = given s.args.b_period s.args.b_distance s.args.b_cells.now
+
+abbrev lying : Start → Bool
+lying s = aligned_as (alignment_of s.args.k) (row-a s) (row-b s)
+
+capped_is : (c : After-span_of-capped) → let s = (goal.at.After-span_of-capped c).Start in c.Span-of.result ≡ capped_at (up s.args.room) (span_of (turn (row-a s)) (turn (row-b s)))
+capped_is c =
+    let s = (goal.at.After-span_of-capped c).Start in
+    let r = s.ranges.room in
+    let p = s.ranges.a_period in
+    let n = s.ranges.a_distance in
+    let q = s.ranges.b_period in
+    let m = s.ranges.b_distance in
+    simp plain at c.Span-of.ensures
+
+pub returns-in_default : goal.returns-in_default
+returns-in_default c =
+    let t = (goal.at.returns-in_default c).After-span_of-capped in
+    sym (failed 8 _ (capped-past _ _ (sym (capped_is t) ∙ c.enum_told-1.given.1)))
+
+within : (c : In-Within) → let s = (goal.at.In-Within c).Start in
+    capped_at (up s.args.room) (span_of (turn (row-a s)) (turn (row-b s))) ≡ Within c.capped-1.given.0.0
+within c = sym (capped_is (goal.at.In-Within c).After-span_of-capped) ∙ c.capped-1.given.1
+
+pub overflow_cast-span : goal.overflow_cast-span
+overflow_cast-span c = capped_fits c.requires.room _ (within c)
+
+pub aligned-requires : goal.aligned-requires
+aligned-requires c =
+    let s = (goal.at.aligned-requires c).Start in
+    let r = capped-half s.requires.room _ (within c) in
+    let p = s.ranges.a_period in
+    let n = s.ranges.a_distance in
+    let q = s.ranges.b_period in
+    let m = s.ranges.b_distance in
+    record { sound = (simp plain (s.requires.sound, (s.requires.sound_2, capped-spanned (row-a s) (row-b s) s.requires.room (within c)))).0; sound_2 = (simp plain (s.requires.sound, (s.requires.sound_2, capped-spanned (row-a s) (row-b s) s.requires.room (within c)))).1; spanned = (simp plain (s.requires.sound, (s.requires.sound_2, capped-spanned (row-a s) (row-b s) s.requires.room (within c)))).2 }
+
+aligned-is : (c : After-aligned) → c.aligned.result ≡ lying (goal.at.After-aligned c).Start
+aligned-is c =
+    let s = (goal.at.After-aligned c).Start in
+    let p = s.ranges.a_period in
+    let n = s.ranges.a_distance in
+    let q = s.ranges.b_period in
+    let m = s.ranges.b_distance in
+    simp plain at c.aligned.ensures
+
+pub over_span-requires : goal.over_span-requires
+over_span-requires c =
+    let k = (goal.at.over_span-requires c).In-Within in
+    let s = (goal.at.In-Within k).Start in
+    let r = capped-half s.requires.room _ (within k) in
+    let p = s.ranges.a_period in
+    let n = s.ranges.a_distance in
+    let l = (capped-spanned (row-a s) (row-b s) s.requires.room (within k)).at-most in
+    record { limited = (simp plain (limited _ _ _ s.requires.sound, (simp ints (omega arith), l))).0; pos_bound = (simp plain (limited _ _ _ s.requires.sound, (simp ints (omega arith), l))).1 }
+
+pub returns-then-aligned : goal.returns-then-aligned
+returns-then-aligned c =
+    let k = (goal.at.returns-then-aligned c).In-Within in
+    let s = (goal.at.In-Within k).Start in
+    let h = capped-half s.requires.room _ (within k) in
+    let p = s.ranges.a_period in
+    let n = s.ranges.a_distance in
+    let e : c.over_span.result ≡ over_span (turn (row-a s)) k.capped-1.given.0.0 = simp plain at c.over_span.ensures in
+    ap answer (e ∙ ap (over_span (turn (row-a s))) (within-is (within k)).0)
+    ∙ sym (passed 8 _ (capped-passes _ _ (within k)) ∙ passed 9 _ (sym (aligned-is (goal.at.returns-then-aligned c).After-aligned) ∙ c.if-aligned.true))
+
+pub returns-else-aligned : goal.returns-else-aligned
+returns-else-aligned c =
+    let k = (goal.at.returns-else-aligned c).In-Within in
+    sym (passed 8 _ (capped-passes _ _ (within k)) ∙ failed 9 _ (sym (aligned-is (goal.at.returns-else-aligned c).After-aligned) ∙ c.if-aligned.false))

@@ -1,0 +1,12 @@
+-- `planner::down::print_parts` is safe and ends.
+-- Assumes nothing.
+use borrow.Author.Rules.{rules}
+use Prim.Native.Nat.{◌≤◌, ◌-◌}
+use Rattle.planner.proofs.down.print_parts.Given as goal
+
+abbrev pub invariant-loop-i : goal.invariant-loop-i
+invariant-loop parts n i₀ t4 t5 i = i ≤ n
+
+abbrev pub decreases-loop-i : goal.decreases-loop-i
+decreases-loop parts n i₀ t4 t5 i = n - i
+

@@ -1,0 +1,12 @@
+-- `planner::picture::print_days` is safe and ends.
+-- Assumes nothing.
+use borrow.Author.Rules.{rules}
+use Prim.Native.Nat.{◌≤◌, ◌-◌}
+use Rattle.planner.proofs.picture.print_days.Given as goal
+
+abbrev pub invariant-loop-i : goal.invariant-loop-i
+invariant-loop-i l = l.i ≤ 37
+
+abbrev pub decreases-loop-i : goal.decreases-loop-i
+decreases-loop-i l = 37 - l.i
+

@@ -1,0 +1,12 @@
+-- `planner::picture::print_lines` is safe and ends.
+-- Assumes nothing.
+use borrow.Author.Rules.{rules}
+use Prim.Native.Nat.{◌≤◌, ◌-◌}
+use Rattle.planner.proofs.picture.print_lines.Given as goal
+
+abbrev pub invariant-loop-line : goal.invariant-loop-line
+invariant-loop-line l = l.line ≤ 13
+
+abbrev pub decreases-loop-line : goal.decreases-loop-line
+decreases-loop-line l = 13 - l.line
+

@@ -1,0 +1,52 @@
+-- `questions_api::least_period` meets its contract: what `questions::least_period` answers, or its refusal and 0. The
+-- number tried fits, since it is at most the period.
+use borrow.Author.Rules.{rules, sfits_of}
+use mathlib.Core.Path.{◌≡◌, sym, ◌∙◌, ap}
+use Prim.Native.Nat.{ℕ, ◌<◌, ◌^◌}
+use native.Mathlib.Omega.{arith}
+use lib.IntN.{ℤ}
+use mir.Facts.{to_z-of_z}
+use Rattle.integers.proofs.Machine.{plain}
+use Rattle.calendar.specs.Meaning.{Row}
+use Rattle.calendar.specs.Reply.Reply.{answer}
+use Rattle.calendar.specs.Questions.{given}
+use Rattle.codes.proofs.Counts.{count_fits, count-back}
+use Rattle.questions.specs.Answers.{least_period, shortening_reply}
+use Rattle.questions.proofs.Shortest.{tried-within}
+use Rattle.questions_api.specs.Codes.{least_code, tried_left}
+use Rattle.questions_api.proofs.least_period.Goals as goal
+use Rattle.questions_api.proofs.least_period.Goals.{After-least_period-shortening, In-Refused-2, In-To-2, Start}
+
+abbrev row : Start → Row
+row s = given s.args.period s.args.distance s.args.cells.now
+
+replied : (c : After-least_period-shortening) → shortening_reply c.least_period-shortening.result ≡ least_period (row (goal.at.After-least_period-shortening c).Start)
+replied c =
+    let s = (goal.at.After-least_period-shortening c).Start in
+    let p = s.ranges.period in
+    let n = s.ranges.distance in
+    simp plain at c.least_period-shortening.ensures
+
+-- the number tried is below half of the numbers of 64 bits
+small : (s : Start) (p : ℤ) (n : ℕ) → answer (p, n) ≡ least_period (row s) → n < 2 ^ 63
+small s p n e = omega (arith, tried-within (row s) p n e)
+
+pub overflow_cast-tried : goal.overflow_cast-tried
+overflow_cast-tried c =
+    let k = (goal.at.overflow_cast-tried c).In-To-2 in
+    let d = (goal.at.In-To-2 k).After-least_period-shortening in
+    count_fits _ (small (goal.at.After-least_period-shortening d).Start _ _ (sym (ap shortening_reply k.shortening-1.given.1) ∙ replied d))
+
+pub returns-in-To : goal.returns-in-To
+returns-in-To c =
+    let k = (goal.at.returns-in-To c).In-To-2 in
+    let d = (goal.at.In-To-2 k).After-least_period-shortening in
+    let e = sym (ap shortening_reply k.shortening-1.given.1) ∙ replied d in
+    record { code = to_z-of_z (sfits_of c.struct_told-1.given.0.1) ∙ ap least_code e; tried = count-back _ (small (goal.at.After-least_period-shortening d).Start _ _ e) ∙ ap tried_left e }
+
+pub returns-in-Refused : goal.returns-in-Refused
+returns-in-Refused c =
+    let k = (goal.at.returns-in-Refused c).In-Refused-2 in
+    let d = (goal.at.In-Refused-2 k).After-least_period-shortening in
+    let e = sym (ap shortening_reply k.shortening-in-Refused-1.given.1) ∙ replied d in
+    record { code = to_z-of_z {w = w64} (sfits_of c.refusal_code.type_inv) ∙ c.refusal_code.ensures ∙ ap least_code e; tried = ap tried_left e }

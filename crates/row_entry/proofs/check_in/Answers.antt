@@ -1,0 +1,60 @@
+-- `row_entry::check_in` meets its contract: check 7 stands before the others, and the parts of the pool that it hands over are the operands' rows.
+-- Assumes nothing.
+use mathlib.Core.Path.{◌≡◌, sym, ◌∙◌}
+use borrow.Author.Tests.{not-true, not-false}
+use borrow.Author.Rules.{rules}
+use Rattle.integers.proofs.Machine.{plain}
+use Rattle.calendar.specs.Checks.{full_operands}
+use Rattle.granules.proofs.Replies.{failed}
+use Rattle.kinds.specs.Stands.{row_in}
+use Rattle.fill_shared.specs.Placed.{over}
+use Rattle.row_entry.proofs.Parts.{OperandFits, handed, handed-is}
+use Rattle.row_entry.proofs.check_in.Goals as goal
+use Rattle.row_entry.proofs.check_in.Goals.{After-are_full, After-struct_told-4-1, Else-not-are_full, Start}
+
+-- check 7
+full_is : (c : After-are_full) → let a = c.args in c.are_full.result ≡ full_operands (over a.kind a.pool.now a.a a.b)
+full_is c = c.are_full.ensures c.args.pool.now c.requires.counted_first
+
+pub returns-then-not-are_full : goal.returns-then-not-are_full
+returns-then-not-are_full c = sym (failed 7 _ (sym (full_is (goal.at.returns-then-not-are_full c).After-are_full) ∙ not-true _ c.if-not-are_full.true-raw))
+
+a-fits : (c : Start) → OperandFits c.args.a
+a-fits c = search rules
+
+b-fits : (c : Start) → OperandFits c.args.b
+b-fits c = search rules
+
+-- the two rows
+abbrev passed : After-struct_told-4-1 → Else-not-are_full
+passed c = (goal.at.After-struct_told-4-1 c).Else-not-are_full
+
+abbrev start : After-struct_told-4-1 → Start
+start c = (passed c).before.before
+
+a-handed : (c : After-struct_told-4-1) → let s = start c in
+    handed s.args.pool.now s.args.a c.end_of-a_end.result ≡ row_in s.args.pool.now s.args.a
+a-handed c =
+    let s = start c in
+    let e = c.end_of-a_end in
+    handed-is s.args.pool.now s.args.a e.result (a-fits s) e.ensures
+
+b-handed : (c : After-struct_told-4-1) → let s = start c in
+    handed s.args.pool.now s.args.b c.end_of-b_end.result ≡ row_in s.args.pool.now s.args.b
+b-handed c =
+    let s = start c in
+    let e = c.end_of-b_end in
+    handed-is s.args.pool.now s.args.b e.result (b-fits s) e.ensures
+
+pub check-requires : goal.check-requires
+check-requires c =
+    let s = start c in
+    let room = s.ranges.room in
+    let p = s.requires in
+    let f = sym (full_is (passed c).before) ∙ not-false _ (passed c).if1.false in
+    record { numbers = ((p.0, (rw (a-handed c, b-handed c) p.1.0, (rw (a-handed c, b-handed c) f, simp plain p.1.1.1.1.1.1)))).0; sound_first = ((p.0, (rw (a-handed c, b-handed c) p.1.0, (rw (a-handed c, b-handed c) f, simp plain p.1.1.1.1.1.1)))).1; b_cells_value = ((p.0, (rw (a-handed c, b-handed c) p.1.0, (rw (a-handed c, b-handed c) f, simp plain p.1.1.1.1.1.1)))).2; pos_bound = ((p.0, (rw (a-handed c, b-handed c) p.1.0, (rw (a-handed c, b-handed c) f, simp plain p.1.1.1.1.1.1)))).3 }
+
+pub returns : goal.returns
+returns c =
+    let room = (start (goal.at.returns c).After-struct_told-4-1).ranges.room in
+    rw (← a-handed (goal.at.returns c).After-struct_told-4-1, ← b-handed (goal.at.returns c).After-struct_told-4-1) (simp plain at c.check.ensures)

@@ -1,0 +1,18 @@
+-- `sheet_lines::write_refusal` meets its contract, word by word.
+-- Assumes nothing.
+use Rattle.sheet_lines.proofs.Laying.{relay}
+use Rattle.sheet_lines.proofs.Lines.{refusal-line}
+use borrow.Author.Rules.{rules}
+use Rattle.sheet_lines.proofs.write_refusal.Goals as goal
+
+slice-aggregate-write-word : tie.Need-slice-aggregate-write-word
+slice-aggregate-write-word c = search rules
+
+slice-aggregate-write-word-2 : tie.Need-slice-aggregate-write-word-2
+slice-aggregate-write-word-2 c = search rules
+
+pub returns : goal.returns
+returns c =
+    let a = c.args in
+    λ u o h. relay (refusal-line a.number a.entry u)
+    (c.push.ensures _ o (c.write_decimal-end.ensures _ o (c.write_word-c.ensures _ o (c.write_decimal-b.ensures _ o (c.write_word-a.ensures u o h)))))

@@ -1,0 +1,43 @@
+-- `sheet_text::lay_converted` meets its contract: what is written are the lines of what the conversion leaves.
+-- Assumes nothing.
+use borrow.Author.Rules.{rules}
+use mathlib.Core.Path.{◌≡◌, subst}
+use mathlib.Core.List.{[]}
+use Prim.Native.Nat.{◌*◌}
+use Rattle.calendar.specs.Limits.{entry_limit, heading_length}
+use Rattle.table_text.specs.Text.{sheet_pool}
+use Rattle.conversion.specs.Left.{Left}
+use Rattle.conversion.specs.declared.Conversion.{Conversion}
+use Rattle.sheet_lines.proofs.Laying.{laid_none, relay}
+use Rattle.sheet_text.proofs.Rows.{printed-refusal, rows-there, printed-rows}
+use Rattle.sheet_text.proofs.lay_converted.Goals as goal
+use Rattle.sheet_text.proofs.lay_converted.Goals.{After-convert-arg-1, After-convert-converted, After-pool-1, After-write_refusal, After-write_rows, In-Refused-2, Start}
+
+abbrev start : After-convert-converted → Start
+start a = (goal.at.After-convert-converted a).Start
+
+-- the conversion's answer is x
+abbrev Says : After-convert-converted → Conversion → Type 0
+Says a x = Left (start a).args.table.now (heading_length * entry_limit) sheet_pool x a.convert-converted.new.headings a.convert-converted.new.pool
+
+says : (a : After-convert-converted) (x : Conversion) → a.convert-converted.result ≡ x → Says a x
+says a x e = subst (Says a) e (rw ((start a).requires.0, (start a).requires.1) at a.convert-converted.ensures)
+
+pub write_rows-requires : goal.write_rows-requires
+write_rows-requires c =
+    let m = (goal.at.write_rows-requires c).After-pool-1 in
+    rows-there _ _ _ _ _ (says (goal.at.After-pool-1 m).After-convert-arg-1 _ m.enum_told-1.given.1)
+
+pub returns-in-Refused : goal.returns-in-Refused
+returns-in-Refused c =
+    let w = (goal.at.returns-in-Refused c).After-write_refusal in
+    let m = (goal.at.After-write_refusal w).In-Refused-2 in
+    relay (printed-refusal _ _ _ _ _ _ _ (says (goal.at.In-Refused-2 m).After-convert-converted _ m.converted-1.given.1))
+    (w.write_refusal.ensures [] _ (laid_none _))
+
+pub returns-in-Converted : goal.returns-in-Converted
+returns-in-Converted c =
+    let w = (goal.at.returns-in-Converted c).After-write_rows in
+    let m = (goal.at.After-write_rows w).After-pool-1 in
+    relay (printed-rows _ _ _ _ _ (says (goal.at.After-pool-1 m).After-convert-arg-1 _ m.enum_told-1.given.1))
+    (w.write_rows.ensures [] _ (laid_none _))

@@ -1,0 +1,56 @@
+-- `sheet_text::lay_sheet` meets its contract: what is written is the line of the bad line, or the sheet of the table that was read.
+-- Assumes nothing.
+use borrow.Author.Rules.{rules}
+use mathlib.Core.Path.{◌≡◌, sym, ◌∙◌, ap, subst}
+use mathlib.Core.List.{[]}
+use Prim.Native.Nat.{ℕ, ◌≤◌}
+use lib.ListN.{length}
+use lib.Seq.{length-take-le}
+use Rattle.table_text.specs.Text.{table_length}
+use Rattle.table_text.specs.Parse.{parse}
+use Rattle.table_text.specs.Tables.{Left}
+use Rattle.table_text.specs.declared.table.Reading.{Reading}
+use Rattle.sheet_lines.specs.RowLines.{refusal_line}
+use Rattle.sheet_lines.proofs.Laying.{laid_none, relay}
+use Rattle.sheet_text.proofs.Texts.{sheet-bad, sheet-table}
+use Rattle.sheet_text.proofs.lay_sheet.Goals as goal
+use Rattle.sheet_text.proofs.lay_sheet.Goals.{After-lay_table, After-number, After-read_table-reading, After-write_refusal, In-Bad-2, In-Table, Start}
+
+abbrev start : After-read_table-reading → Start
+start a = (goal.at.After-read_table-reading a).Start
+
+-- the reading is x
+abbrev Says : After-read_table-reading → Reading → Type 0
+Says a x = Left table_length (parse (start a).args.text.now) x a.read_table-reading.new.table
+
+says : (a : After-read_table-reading) (x : Reading) → a.read_table-reading.result ≡ x → Says a x
+says a x e = subst (Says a) e a.read_table-reading.ensures
+
+abbrev reading : In-Table → After-read_table-reading
+reading k = (goal.at.In-Table k).After-read_table-reading
+
+-- the table that was read stands in the array
+read : (k : In-Table) → k.reading-in-Table-1.given.0.0 ≤ length (reading k).read_table.new.1.0
+read k = (sheet-table table_length _ _ _ (reading k).read_table.auto.1.0 (says (reading k) _ k.reading-in-Table-1.given.1)).0
+
+pub slice_bounds-table-end : goal.slice_bounds-table-end
+slice_bounds-table-end c = read c
+
+pub slice_bounds-lay_table-end : goal.slice_bounds-lay_table-end
+slice_bounds-lay_table-end c = sym (length-take-le _ _ (read (goal.at.slice_bounds-lay_table-end c).In-Table))
+
+pub returns-in-Bad : goal.returns-in-Bad
+returns-in-Bad c =
+    let w = (goal.at.returns-in-Bad c).After-write_refusal in
+    let n = (goal.at.After-write_refusal w).After-number in
+    let m = (goal.at.After-number n).In-Bad-2 in
+    let is-19 = ap (λ (k : ℕ). refusal_line k m.reading-1.given.0.0) n.number.ensures in
+    relay (is-19 ∙ sheet-bad table_length _ _ _ (says (goal.at.In-Bad-2 m).After-read_table-reading _ m.reading-1.given.1))
+    (w.write_refusal.ensures [] _ (laid_none _))
+
+pub returns-in-Table : goal.returns-in-Table
+returns-in-Table c =
+    let w = (goal.at.returns-in-Table c).After-lay_table in
+    let k = (goal.at.After-lay_table w).In-Table in
+    relay (sheet-table table_length _ _ _ (reading k).read_table.auto.1.0 (says (reading k) _ k.reading-in-Table-1.given.1)).1
+    w.lay_table.ensures

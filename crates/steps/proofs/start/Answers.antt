@@ -1,0 +1,27 @@
+-- `steps::start` meets its contract: the lengths are read, checks 1 to 3 made, and both lists cleared.
+-- Assumes nothing.
+use mathlib.Core.Path.{◌≡◌, refl, sym, ◌∙◌, ap}
+use Rattle.calendar.specs.Reply.Reply.{refused, answer}
+use Rattle.walks.specs.Walk.{admits}
+use Rattle.entries.specs.Entries.{begun_reply}
+use Rattle.steps.proofs.Taking.{start-refused, start-begun}
+use borrow.Author.Rules.{rules}
+use Rattle.steps.proofs.start.Goals as goal
+use Rattle.steps.proofs.start.Goals.{After-begin-begun, After-clear}
+
+pub returns-in-Refused : goal.returns-in-Refused
+returns-in-Refused c =
+    let l = (goal.at.returns-in-Refused c).After-clear in
+    let b = (goal.at.After-clear l).After-begin-begun in
+    let a = b.args in
+    rw c.number.ensures
+    (start-refused a.table.now a.headings.now a.pool.now _ refl _ _ l.clear.ensures _
+    (sym b.begin-begun.ensures ∙ ap begun_reply c.begun-1.given.1))
+
+pub returns-in-Entries : goal.returns-in-Entries
+returns-in-Entries c =
+    let l = (goal.at.returns-in-Entries c).After-clear in
+    let b = (goal.at.After-clear l).After-begin-begun in
+    let a = b.args in
+    start-begun a.table.now a.headings.now a.pool.now _ refl _ _ l.clear.ensures _
+    (sym b.begin-begun.ensures ∙ ap begun_reply c.enum_told-1.given.1)

@@ -1,0 +1,82 @@
+-- `steps::take_entry` meets its contract: the entry is converted behind the rows that stand; what is behind its row is cleared.
+-- Assumes nothing.
+use mathlib.Core.Path.{◌≡◌, refl, sym, ◌∙◌, ap, subst}
+use mathlib.Core.List.{List}
+use Prim.Native.Nat.{ℕ}
+use lib.IntN.{ℤ}
+use lib.ListN.{length}
+use Rattle.row_entry.specs.declared.Appended.{Appended}
+use Rattle.row_entry.specs.Stores.{Entered}
+use Rattle.conversion.proofs.Clearing.{cleared-as}
+use Rattle.standing.specs.Standing.{rows_at}
+use Rattle.standing.proofs.Decides.{rows-length}
+use Rattle.steps.specs.State.{lengths_in}
+use Rattle.steps.proofs.Testing.{few, stores, entry-due}
+use Rattle.steps.proofs.Taking.{entry-refused, entry-taken}
+use borrow.Author.Rules.{rules}
+use Rattle.steps.proofs.take_entry.Goals as goal
+use Rattle.steps.proofs.take_entry.Goals.{After-clear, After-clear_cells, After-convert_entry-entry, In-Ends, In-Refused, Start}
+
+pub convert_entry-entry-requires : goal.convert_entry-entry-requires
+convert_entry-entry-requires c =
+    let s = (goal.at.convert_entry-entry-requires c).Start in
+    let a = s.args in
+    entry-due (lengths_in a.lengths) a.k a.table.now a.headings.now a.pool.now s.requires.pool_value a.used s.requires.ends_at
+
+-- ---- what became of the entry
+abbrev begun : After-convert_entry-entry → Start
+begun c = (goal.at.After-convert_entry-entry c).Start
+
+abbrev numbers : After-convert_entry-entry → List ℕ
+numbers c = c.convert_entry-entry.new.headings
+
+abbrev cells : After-convert_entry-entry → List ℤ
+cells c = c.convert_entry-entry.new.pool
+
+abbrev Says : After-convert_entry-entry → Appended → Type 0
+Says c x =
+    let a = (begun c).args in
+    Entered a.table.now a.k (rows_at a.headings-1.now a.pool-1.now a.k) x (numbers c) (cells c)
+
+says : (c : After-convert_entry-entry) → Says c c.convert_entry-entry.result
+says c =
+    let s = begun c in
+    let a = s.args in
+    c.convert_entry-entry.ensures.entered _ (rows-length a.headings.now a.pool.now a.k)
+    (stores (lengths_in a.lengths) a.k a.table.now a.headings.now a.pool.now s.requires.pool_value a.used s.requires.ends_at)
+
+abbrev taking : In-Ends → After-convert_entry-entry
+taking c = (goal.at.In-Ends c).After-convert_entry-entry
+
+pub clear_cells-requires : goal.clear_cells-requires
+clear_cells-requires c =
+    let k = (goal.at.clear_cells-requires c).In-Ends in
+    let e = taking k in
+    (subst (Says e) k.entry-in-Ends-1.given.1 (says e)).2.fits
+
+pub progress_behind-requires : goal.progress_behind-requires
+progress_behind-requires c =
+    let s = begun (taking (goal.at.progress_behind-requires c).In-Ends) in
+    let a = s.args in
+    few (lengths_in a.lengths) a.k a.table.now a.headings.now a.pool.now s.requires.pool_value
+
+pub returns-in-Refused : goal.returns-in-Refused
+returns-in-Refused c =
+    let l = (goal.at.returns-in-Refused c).After-clear in
+    let k = (goal.at.After-clear l).In-Refused in
+    let e = (goal.at.In-Refused k).After-convert_entry-entry in
+    let a = (begun e).args in
+    let g = k.entry-1.given in
+    rw c.number.ensures
+    (entry-refused a.lengths a.k a.table.now a.headings-1.now a.pool-1.now g.0.0 (numbers e) (cells e) e.convert_entry-entry.ensures.lengths.1
+    (subst (Says e) g.1 (says e)) _ _ (cleared-as e.convert_entry-entry.ensures.lengths.0 e.convert_entry-entry.ensures.lengths.1 l.clear.ensures))
+
+pub returns-in-Ends : goal.returns-in-Ends
+returns-in-Ends c =
+    let l = (goal.at.returns-in-Ends c).After-clear_cells in
+    let k = (goal.at.After-clear_cells l).In-Ends in
+    let e = taking k in
+    let a = (begun e).args in
+    let g = k.entry-in-Ends-1.given in
+    entry-taken a.lengths a.k a.table.now a.headings-1.now a.pool-1.now g.0.0 (numbers e) (cells e) e.convert_entry-entry.ensures.lengths.0 e.convert_entry-entry.ensures.lengths.1
+    (subst (Says e) g.1 (says e)) _ c.progress_behind.ensures _ l.clear_cells.ensures

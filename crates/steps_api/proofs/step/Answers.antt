@@ -1,0 +1,37 @@
+-- `steps_api::step` meets its contract: a call in the walk that the state holds.
+-- Assumes nothing.
+use mathlib.Core.Path.{◌≡◌, refl, sym, ◌∙◌, ap}
+use mathlib.Core.Option.{Option}
+use lib.IntN.{ℤ}
+use lib.ListN.{length}
+use Rattle.walks.specs.Walk as W
+use Rattle.steps_api.specs.Held.{held_as, walk_in}
+use Rattle.steps_api.specs.Told.{called_in}
+use Rattle.steps_api.proofs.Telling.{walk-eight, told-nothing, told-step}
+use borrow.Author.Rules.{rules, sfits_of}
+use mir.Facts.{to_z-of_z}
+use Rattle.steps_api.proofs.step.Goals as goal
+use Rattle.steps_api.proofs.step.Goals.{After-read-held, After-step-next, After-write_progress, In-Is}
+
+pub write_progress-requires : goal.write_progress-requires
+write_progress-requires c =
+    let k = (goal.at.write_progress-requires c).In-Is in
+    let r = (goal.at.In-Is k).After-read-held in
+    walk-eight r.args.state.now _ (sym r.read-held.ensures ∙ ap held_as k.held-1.given.1)
+
+pub returns-in-Is : goal.returns-in-Is
+returns-in-Is c =
+    let w = (goal.at.returns-in-Is c).After-write_progress in
+    let d = (goal.at.After-write_progress w).After-step-next in
+    let k = (goal.at.After-step-next d).In-Is in
+    let r = (goal.at.In-Is k).After-read-held in
+    let a = r.args in
+    told-step a.headings.now a.pool.now a.state.now a.table.now d.step-next.result _ _ _ _ (to_z-of_z {w = w64} (sfits_of c.code.type_inv) ∙ c.code.ensures)
+    k.held-1.given.0.0 (sym (ap held_as k.held-1.given.1) ∙ r.read-held.ensures) d.step-next.ensures w.write_progress.ensures
+
+pub returns-in-Nothing : goal.returns-in-Nothing
+returns-in-Nothing c =
+    let r = (goal.at.returns-in-Nothing c).After-read-held in
+    let a = r.args in
+    told-nothing a.headings.now a.pool.now a.state.now _
+    (ap (λ (x : Option W.Walk). called_in x a.state.now a.table.now a.headings.now a.pool.now) (sym (ap held_as c.enum_told-1.given.1) ∙ r.read-held.ensures))

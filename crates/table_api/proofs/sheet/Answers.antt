@@ -1,0 +1,34 @@
+-- `table_api::sheet` meets its contract: the code of what `sheet_text::sheet` answers, and the list as it leaves it. The count fits, since the list has
+-- room for the sheet.
+-- Assumes nothing.
+use borrow.Author.Rules.{rules}
+use mathlib.Core.Path.{◌∙◌, sym, ap}
+use Prim.Native.Nat.{◌<◌, ◌^◌}
+use native.Mathlib.Omega.{arith}
+use Rattle.codes.proofs.Counts.{count_fits, count-back}
+use Rattle.sheet_text.proofs.Whole.{taken-fit}
+use Rattle.table_api.specs.Codes.{sheet_code}
+use Rattle.table_api.proofs.sheet.Goals as goal
+use Rattle.table_api.proofs.sheet.Goals.{After-sheet-written, In-Bytes}
+
+abbrev writing : In-Bytes → After-sheet-written
+writing k = (goal.at.In-Bytes k).After-sheet-written
+
+-- the count is below half of the numbers of 64 bits
+small : (k : In-Bytes) → k.written-1.given.0.0 < 2 ^ 63
+small k =
+    let w = writing k in
+    omega (arith, taken-fit w.sheet-written.ensures k.written-1.given.1, w.good)
+
+pub overflow_cast-result : goal.overflow_cast-result
+overflow_cast-result c = count_fits c.written-1.given.0.0 (small c)
+
+pub returns-in-Bytes : goal.returns-in-Bytes
+returns-in-Bytes c =
+    let w = (writing c).sheet in
+    (w.result, count-back c.written-1.given.0.0 (small c) ∙ ap sheet_code (sym c.written-1.given.1), w.ensures)
+
+pub returns-in-TooShort : goal.returns-in-TooShort
+returns-in-TooShort c =
+    let w = c.sheet-written in
+    (w.result, ap sheet_code (sym c.enum_told-1.given.1), w.ensures)
