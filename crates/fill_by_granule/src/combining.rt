@@ -3,7 +3,7 @@
 ghost use Rattle.std.specs.Prelude.{◌≡◌, true, ◌^◌};
 ghost use Rattle.std.proofs.Math.Option.{some};
 ghost use Rattle.calendar.specs.Meaning.{meant};
-ghost use Rattle.calendar.specs.Compute.{result};
+ghost use Rattle.calendar.specs.Compute.{result as result_of};
 ghost use Rattle.calendar.specs.Lists.{first};
 ghost use Rattle.calendar.specs.Granules.{granule};
 ghost use Rattle.calendar.specs.Questions.{given};
@@ -43,7 +43,7 @@ fn lies(
     requires a_value { a ≡ cursor_at (given a_period a_distance a_cells.now) t }
     requires b_value { b ≡ cursor_at (given b_period b_distance b_cells.now) t }
     requires t_value_2 { fresh ≡ true → t ≡ first (granule (given b_period b_distance b_cells.now) k) }
-    ensures* { λ r. ⌜ r ≡ lies_at (given a_period a_distance a_cells.now) (given b_period b_distance b_cells.now) k t ⌝ }
+    ensures { result ≡ lies_at (given a_period a_distance a_cells.now) (given b_period b_distance b_cells.now) k t }
 {
     let outer = cursors::cursor_label(a_cells, a_period, a_distance, a);
     let Found::At(i) = outer else {
@@ -82,7 +82,7 @@ pub fn combined(
     requires a_value { a ≡ cursor_at (given a_period a_distance a_cells.now) t }
     requires b_value { b ≡ cursor_at (given b_period b_distance b_cells.now) t }
     requires t_value_2 { fresh ≡ true → t ≡ first (granule (given b_period b_distance b_cells.now) k) }
-    ensures* { λ r. ⌜ found r ≡ result (operation_of Combine (given a_period a_distance a_cells.now) (given b_period b_distance b_cells.now)) t ⌝ }
+    ensures { found result ≡ result_of (operation_of Combine (given a_period a_distance a_cells.now) (given b_period b_distance b_cells.now)) t }
 {
     if lies(
         fresh, k, t, a, b, a_cells, a_period, a_distance, b_cells, b_period, b_distance,
@@ -105,7 +105,7 @@ fn fill_granules(
 ) -> Filled
     requires fillable { Fillable Combine (row_in pool.old a) (row_in pool.old b) }
     requires placed { Placed Combine a b span at period pool.old }
-    ensures* { λ r. ⌜ Fills (over Combine pool.old a b) at period pool.old pool.new r ⌝ }
+    ensures { Fills (over Combine pool.old a b) at period pool.old pool.new result }
 {
     let a_start = a.start;
     let a_end = end_of(a, at);
@@ -180,7 +180,7 @@ pub fn fill_combine(
 ) -> Filled
     requires fillable { Fillable Combine (row_in pool.old a) (row_in pool.old b) }
     requires placed { Placed Combine a b span at period pool.old }
-    ensures* { λ r. ⌜ Fills (over Combine pool.old a b) at period pool.old pool.new r ⌝ }
+    ensures { Fills (over Combine pool.old a b) at period pool.old pool.new result }
 {
     if b.period == 1 {
         return fill_unary::shifting::fill_shift(0, a.period, at, period, pool, a, b);

@@ -4,7 +4,7 @@
 
 ghost use Rattle.std.specs.Prelude.{◌≡◌, cond, ◌+◌, ltb, pos, ◌+ℤ◌, ◌<ℤ◌, get_or};
 ghost use Rattle.calendar.specs.Limits.{pool_limit};
-ghost use Rattle.calendar.specs.Compute.{result};
+ghost use Rattle.calendar.specs.Compute.{result as result_of};
 ghost use Rattle.calendar.specs.Questions.{given};
 ghost use Rattle.cursors.specs.Found.{found};
 ghost use Rattle.one_cell.specs.Serves.{Serves};
@@ -50,7 +50,7 @@ pub struct Stepped {
 
 // The label that a set operation gives an instant with the labels x in a and y in b.
 fn set_label(by: SetOperation, x: Found, y: Found) -> Found
-    ensures* { λ r. ⌜ found r ≡ set_label by (found x) (found y) ⌝ }
+    ensures { found result ≡ set_label by (found x) (found y) }
 {
     match by {
         SetOperation::Union => match x {
@@ -70,7 +70,7 @@ fn set_label(by: SetOperation, x: Found, y: Found) -> Found
 
 // The label of an instant with the labels x in a and y in b, where the last label of b is `last`.
 fn decided(by: Pointwise, x: Found, y: Found, last: i64) -> Found
-    ensures* { λ r. ⌜ found r ≡ decided_label by (found x) (found y) last ⌝ }
+    ensures { found result ≡ decided_label by (found x) (found y) last }
 {
     match by {
         Pointwise::Anchor => match x {
@@ -83,7 +83,7 @@ fn decided(by: Pointwise, x: Found, y: Found, last: i64) -> Found
 
 // The last label of b, given that before the instant and the instant's own.
 fn later(last: i64, y: Found) -> i64
-    ensures* { λ r. ⌜ r ≡ later_label last (found y) ⌝ }
+    ensures { result ≡ later_label last (found y) }
 {
     match y {
         Found::At(k) => k,
@@ -106,8 +106,8 @@ pub fn step(
     requires fillable { Fillable (kind_of by) (given a_period a_distance a_cells.now) (given b_period b_distance b_cells.now) }
     requires scans { Scans (given a_period a_distance a_cells.now) (given b_period b_distance b_cells.now) t s }
     requires t_bound { t <ℤ pos pool_limit }
-    ensures* label { λ r. ⌜ found r.label ≡ result (operation_of (kind_of by) (given a_period a_distance a_cells.now) (given b_period b_distance b_cells.now)) t ⌝ }
-    ensures* next { λ r. ⌜ Scans (given a_period a_distance a_cells.now) (given b_period b_distance b_cells.now) (t +ℤ pos 1) r.next ⌝ }
+    ensures label { found result.label ≡ result_of (operation_of (kind_of by) (given a_period a_distance a_cells.now) (given b_period b_distance b_cells.now)) t }
+    ensures next { Scans (given a_period a_distance a_cells.now) (given b_period b_distance b_cells.now) (t +ℤ pos 1) result.next }
 {
     let label = cursors::cursor_label(a_cells, a_period, a_distance, s.a);
     let other = cursors::cursor_label(b_cells, b_period, b_distance, s.b);
@@ -133,7 +133,7 @@ fn fill_stepped(
 ) -> Filled
     requires fillable { Fillable (kind_of by) (row_in pool.old a) (row_in pool.old b) }
     requires placed { Placed (kind_of by) a b span at period pool.old }
-    ensures* { λ r. ⌜ Fills (over (kind_of by) pool.old a b) at period pool.old pool.new r ⌝ }
+    ensures { Fills (over (kind_of by) pool.old a b) at period pool.old pool.new result }
 {
     let a_start = a.start;
     let a_end = end_of(a, at);
@@ -178,7 +178,7 @@ fn fill_stepped(
 
 // What a working row is, by how many of its instants have a label and how many of the labels are outside the limits.
 fn counted_outcome(labelled: u32, outside: u32) -> Filled
-    ensures* { λ r. ⌜ r ≡ cond (ltb 0 outside) OutOfRange (cond (ltb 0 labelled) Labelled Unlabelled) ⌝ }
+    ensures { result ≡ cond (ltb 0 outside) OutOfRange (cond (ltb 0 labelled) Labelled Unlabelled) }
 {
     if outside > 0 {
         Filled::OutOfRange
@@ -199,7 +199,7 @@ fn fill_pieces(
 ) -> Filled
     requires fillable { Fillable (ByLabels set) (row_in pool.old a) (row_in pool.old b) }
     requires placed { Placed (ByLabels set) a b span at period pool.old }
-    ensures* { λ r. ⌜ Fills (over (ByLabels set) pool.old a b) at period pool.old pool.new r ⌝ }
+    ensures { Fills (over (ByLabels set) pool.old a b) at period pool.old pool.new result }
 {
     let a_start = a.start;
     let a_period = a.period as usize;
@@ -239,7 +239,7 @@ fn fill_first(
     requires fillable { Fillable (ByLabels set) (row_in pool.old a) (row_in pool.old b) }
     requires placed { Placed (ByLabels set) a b span at period pool.old }
     requires serves { Serves a.period (get_or pool.old a.start (pos 0)) period }
-    ensures* { λ r. ⌜ Fills (over (ByLabels set) pool.old a b) at period pool.old pool.new r ⌝ }
+    ensures { Fills (over (ByLabels set) pool.old a b) at period pool.old pool.new result }
 {
     let start = a.start;
     let from = b.start;
@@ -263,7 +263,7 @@ fn fill_second(
     requires fillable { Fillable (ByLabels set) (row_in pool.old a) (row_in pool.old b) }
     requires placed { Placed (ByLabels set) a b span at period pool.old }
     requires serves { Serves b.period (get_or pool.old b.start (pos 0)) period }
-    ensures* { λ r. ⌜ Fills (over (ByLabels set) pool.old a b) at period pool.old pool.new r ⌝ }
+    ensures { Fills (over (ByLabels set) pool.old a b) at period pool.old pool.new result }
 {
     let start = b.start;
     let from = a.start;
@@ -286,7 +286,7 @@ fn fill_set(
 ) -> Filled
     requires fillable { Fillable (ByLabels set) (row_in pool.old a) (row_in pool.old b) }
     requires placed { Placed (ByLabels set) a b span at period pool.old }
-    ensures* { λ r. ⌜ Fills (over (ByLabels set) pool.old a b) at period pool.old pool.new r ⌝ }
+    ensures { Fills (over (ByLabels set) pool.old a b) at period pool.old pool.new result }
 {
     let a_start = a.start;
     let b_start = b.start;
@@ -311,7 +311,7 @@ pub fn fill_pointwise(
 ) -> Filled
     requires fillable { Fillable (kind_of by) (row_in pool.old a) (row_in pool.old b) }
     requires placed { Placed (kind_of by) a b span at period pool.old }
-    ensures* { λ r. ⌜ Fills (over (kind_of by) pool.old a b) at period pool.old pool.new r ⌝ }
+    ensures { Fills (over (kind_of by) pool.old a b) at period pool.old pool.new result }
 {
     match by {
         Pointwise::Anchor => fill_stepped(Pointwise::Anchor, span, at, period, pool, a, b),

@@ -9,7 +9,7 @@ ghost use Rattle.calendar.specs.Operation.{Operation};
 ghost use Rattle.calendar.specs.Lists.{same_label, if_label};
 ghost use Rattle.calendar.specs.Limits.{in_range};
 ghost use Rattle.calendar.specs.Distance.{size};
-ghost use Rattle.calendar.specs.Compute.{result};
+ghost use Rattle.calendar.specs.Compute.{result as result_of};
 ghost use Rattle.cursors.specs.Found.{found};
 ghost use Rattle.cursors.specs.Cursor.{Standing};
 ghost use Rattle.kinds.specs.Stands.{end, row_in, Stands};
@@ -42,7 +42,7 @@ pub struct Comparing {
 pub fn cells_of(pool: &[i32], a: Operand) -> &[i32]
     requires pos_bound { pos 0 ≤ℤ a.period }
     requires a_in_bounds { end a ≤ length pool.now }
-    ensures* { λ r. ⌜ r.now ≡ take (up a.period) (drop a.start pool.now) ⌝ }
+    ensures { result.now ≡ take (up a.period) (drop a.start pool.now) }
 {
     let start = a.start;
     let end = end_of(a, pool.len());
@@ -51,7 +51,7 @@ pub fn cells_of(pool: &[i32], a: Operand) -> &[i32]
 
 // Whether two labels are the same, or both are missing.
 pub fn same_label(x: Found, y: Found) -> bool
-    ensures* { λ r. ⌜ r ≡ same_label (found x) (found y) ⌝ }
+    ensures { result ≡ same_label (found x) (found y) }
 {
     match x {
         Found::At(i) => match y {
@@ -67,14 +67,14 @@ pub fn same_label(x: Found, y: Found) -> bool
 
 // Whether all labels are the same, those before and these two.
 pub fn still_same(same: bool, x: Found, y: Found) -> bool
-    ensures* { λ r. ⌜ r ≡ same && same_label (found x) (found y) ⌝ }
+    ensures { result ≡ same && same_label (found x) (found y) }
 {
     if same { same_label(x, y) } else { false }
 }
 
 // What a claimed row is beside a working row whose labels are all within the limits.
 pub fn outcome(labelled: bool, same: bool) -> Matched
-    ensures* { λ r. ⌜ r ≡ cond labelled (cond same Same Different) Unlabelled ⌝ }
+    ensures { result ≡ cond labelled (cond same Same Different) Unlabelled }
 {
     if labelled {
         if same {
@@ -89,7 +89,7 @@ pub fn outcome(labelled: bool, same: bool) -> Matched
 
 // Before the instant 0.
 pub fn begin() -> Comparing
-    ensures* { λ c. ⌜ ((o : Operation Row) (r : Row) → 1 ≤ r.period → Compares o r 0 c) ⌝ }
+    ensures { (o : Operation Row) (r : Row) → 1 ≤ r.period → Compares o r 0 result }
 {
     Comparing {
         cursor: Cursor { index: 0, rise: 0 },
@@ -103,7 +103,7 @@ pub fn compared(label: Found, pool: &[i32], r: Operand, s: Comparing) -> Compari
     requires pos_bound { pos 0 ≤ℤ r.period }
     requires stands { Stands pool.now r }
     requires standing { Standing (row_in pool.now r) s.cursor }
-    ensures* { λ c. ⌜ ((o : Operation Row) (t : ℕ) → Compares o (row_in pool.now r) t s → t < (size o).period → found label ≡ result o (pos t) → if_label (found label) in_range ≡ true → Compares o (row_in pool.now r) (t + 1) c) ⌝ }
+    ensures { (o : Operation Row) (t : ℕ) → Compares o (row_in pool.now r) t s → t < (size o).period → found label ≡ result_of o (pos t) → if_label (found label) in_range ≡ true → Compares o (row_in pool.now r) (t + 1) result }
 {
     let cells = cells_of(pool, r);
     let own = cursors::cursor_label(cells, r.period, r.distance, s.cursor);
