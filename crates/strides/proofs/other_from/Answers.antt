@@ -4,7 +4,7 @@ use mathlib.Core.Path.{◌≡◌, sym, ◌∙◌, ap}
 use mathlib.Core.Logic.{⊎_elim}
 use mathlib.Core.Bool.{true}
 use mathlib.Core.List.{List}
-use Prim.Native.Nat.{ℕ, ◌+◌, ◌-◌, ◌≤◌, ◌<◌}
+use Prim.Native.Nat.{ℕ, ◌+◌, ◌-◌, ◌<◌}
 use native.Mathlib.Omega.{arith}
 use borrow.Author.Rules.{sfits_of}
 use lib.IntN.{ℤ, pos}
@@ -16,7 +16,7 @@ use mir.Val.{to_z, of_z}
 use Rattle.integers.proofs.Machine.{test-eq}
 use Rattle.calendar.specs.Meaning.{empty}
 use Rattle.cursors.specs.Search.{run}
-use Rattle.cursors.proofs.Search.{Searched, search-start, search-past, search-here, search-end}
+use Rattle.cursors.proofs.Search.{search-start, search-past, search-here, search-end}
 use Rattle.strides.specs.Changes.{passable}
 use Rattle.strides.proofs.Changes.{same-passes, none_passes, other-fails}
 use Rattle.strides.proofs.other_from.Goals as goal
@@ -60,20 +60,20 @@ returns-then-cell c =
     let l = loop a in
     let s = (goal.at.At-loop-i l).Start in
     let f = other-fails (Z s) (cell a) (λ h. c.if-cell.true (ap (of_z w32) (sym (cell-is l) ∙ h))) (λ h. c.if-cell-z.true (ap (of_z w32) (sym (cell-is l) ∙ h ∙ Z-is s))) in
-    let e = search-here (passable (Z s)) (rest l) (l.loop-i.i - s.args.start) (pos 0) l.loop-i.inv.2 (within l (omega arith)) f in
+    let e = search-here (passable (Z s)) (rest l) (l.loop-i.i - s.args.start) (pos 0) l.loop-i.invariant.2 (within l (omega arith)) f in
     let g = ap (λ (z : ℤ). run (passable z) (rest l)) (Z-is s) in
-    omega (arith, e, g, l.loop-i.inv.0)
+    omega (arith, e, g, l.loop-i.invariant.0)
 
 -- the cell passes: it has the label z, or none
-passes : (c : Joined-cell-z) → passable (Z (loop (goal.at.Joined-cell-z c).After-cell-1).before) (cell (goal.at.Joined-cell-z c).After-cell-1) ≡ true
+passes : (c : Joined-cell-z) → passable (Z (goal.at.At-loop-i (loop (goal.at.Joined-cell-z c).After-cell-1)).Start) (cell (goal.at.Joined-cell-z c).After-cell-1) ≡ true
 passes c =
     let a = (goal.at.Joined-cell-z c).After-cell-1 in
     let l = loop a in
     let s = (goal.at.At-loop-i l).Start in
     let f = sfits_of a.cell-1.given in
     ⊎_elim
-    (λ w. none_passes (Z s) (cell a) (cell-is l ∙ (test-eq w32 _ empty f (sfits_lit tt)).0 w.1.left))
-    (λ w. same-passes (Z s) (cell a) (cell-is l ∙ (test-eq w32 _ s.args.z f s.ranges.z).0 w.left ∙ sym (Z-is s)))
+    (λ w. none_passes (Z s) (cell a) (cell-is l ∙ (test-eq w32 _ empty f (sfits_lit tt)).0 w.if-cell.false))
+    (λ w. same-passes (Z s) (cell a) (cell-is l ∙ (test-eq w32 _ s.args.z f s.ranges.z).0 w.if-cell-z.false ∙ sym (Z-is s)))
     c.if-cell-z.branch-raw
 
 pub loop-i-preserved : goal.loop-i-preserved
@@ -82,10 +82,10 @@ loop-i-preserved c =
     let s = (goal.at.At-loop-i l).Start in
     let d = s.args.start in
     let i = l.loop-i.i in
-    let e : i + 1 - d ≡ i - d + 1 = omega (arith, l.loop-i.inv.0) in (
-      omega (arith, l.loop-i.inv.0),
+    let e : i + 1 - d ≡ i - d + 1 = omega (arith, l.loop-i.invariant.0) in (
+      omega (arith, l.loop-i.invariant.0),
       omega arith,
-      rw e (search-past (passable (Z s)) (rest l) (i - d) (pos 0) l.loop-i.inv.2 (within l (omega arith)) (passes c)),
+      rw e (search-past (passable (Z s)) (rest l) (i - d) (pos 0) l.loop-i.invariant.2 (within l (omega arith)) (passes c)),
     )
 
 pub returns : goal.returns
