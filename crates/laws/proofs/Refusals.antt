@@ -127,14 +127,14 @@ entries-index (stop j) = omega arith
 entries-index (next j l) = omega (arith, entries-index l)
 
 module _ (s : SetOperation) (c : Commutes s) (t t' : List ℤ) (k n : ℕ) (w : Swapped s k t t') where
-  entries-swap : {m i room : ℕ} {before : List Meant} → length before ≡ i → Entries t m i before room (refused_at n k) → Entries t' m i before room (refused_at n k)
-  entries-swap {room} {before} e (stop j) =
+  entries-swap : {m i room : ℕ} {before : List Meant} → Entries t m i before room (refused_at n k) → length before ≡ i → Entries t' m i before room (refused_at n k)
+  entries-swap {room} {before} (stop j) e =
       stop
       (entry-swap s c before before room n w.first w.second w.first w.second (entry_at t k) (entry_at t' k) (ap (λ (x : ℕ). named x (entry_at t k)) e ∙ w.one)
       (ap (λ (x : ℕ). named x (entry_at t' k)) e ∙ w.other) refl refl j)
-  entries-swap {i} {room} {before} e (next {m} j l) =
+  entries-swap {i} {room} {before} (next {m} j l) e =
       let less : i < k = omega (arith, entries-index l) in
-      next (subst (λ (x : Entry). EntryJudged before room x (answer m)) (w.before i less) j) (entries-swap (length-append before (m ∷ []) ∙ omega arith) l)
+      next (subst (λ (x : Entry). EntryJudged before room x (answer m)) (w.before i less) j) (entries-swap l (length-append before (m ∷ []) ∙ omega arith))
 
 admitted-alike : (t t' : List ℤ) (headings pool : ℕ) → length t ≡ length t' → admitted t headings pool ≡ admitted t' headings pool
 admitted-alike t t' headings pool e =
@@ -145,4 +145,4 @@ admitted-alike t t' headings pool e =
 pub table-swap : (s : SetOperation) → Commutes s → (t t' : List ℤ) (k n headings pool : ℕ) → Swapped s k t t'
     → TableMeans t headings pool (refused_at n k) → TableMeans t' headings pool (refused_at n k)
 table-swap s c t t' k n headings pool w (not-admitted p) = not-admitted (sym (admitted-alike t t' headings pool w.lengths) ∙ p)
-table-swap s c t t' k n headings pool w (entries p l) = entries (sym (admitted-alike t t' headings pool w.lengths) ∙ p) (entries-swap s c t t' k n w refl l)
+table-swap s c t t' k n headings pool w (entries p l) = entries (sym (admitted-alike t t' headings pool w.lengths) ∙ p) (entries-swap s c t t' k n w l refl)
