@@ -1,6 +1,6 @@
 -- `granule_ends::first_instant` meets its contract: it is the end on the way back.
 -- Assumes nothing.
-use borrow.Author.Rules.{rules, sfits_of}
+use borrow.Author.Rules.{sfits_of}
 use mir.Syntax.{w64}
 use mir.Val.{SFits}
 use Rattle.integers.proofs.Machine.{plain}

@@ -1,6 +1,6 @@
 -- `granule_ends::place` meets its contract: it is a walk back that counts.
 -- Assumes nothing.
-use borrow.Author.Rules.{rules, sfits_of}
+use borrow.Author.Rules.{rules}
 use mathlib.Core.Path.{◌≡◌, sym, ◌∙◌, ap}
 use mathlib.Core.Option.{some}
 use mathlib.Core.Bool.{true}
@@ -12,18 +12,16 @@ use mir.Syntax.{w64}
 use mir.Val.{to_z, of_z, SFits}
 use Rattle.integers.specs.Parts.{up}
 use Rattle.integers.proofs.Linear.{ints, ◌∴◌}
-use Rattle.integers.proofs.Machine.{plain}
 use Rattle.calendar.specs.Meaning.{Row, meant}
 use Rattle.calendar.specs.Questions.{given, place}
 use Rattle.granules.specs.Valid.{Valid}
-use Rattle.granules.proofs.Tests.{none≢some}
 use Rattle.cursors.specs.Found.{Sound, Within, Near, found}
 use Rattle.cursors.specs.Cursor.{cursor_at}
 use Rattle.cursors.proofs.Numbers.{numbers, valid}
 use Rattle.cursors.proofs.Direction.{away-near}
 use Rattle.granule_ends.proofs.Inputs.{read, read-sound, read-within, read-holds}
 use Rattle.granule_ends.proofs.Walks.{left, walk-less}
-use Rattle.granule_ends.proofs.Places.{Placing, placing-start, placing-past, placing-to, placing-end}
+use Rattle.granule_ends.proofs.Places.{placing-start, placing-past, placing-to, placing-end}
 use Rattle.granule_ends.proofs.place.Goals as goal
 use Rattle.granule_ends.proofs.place.Goals.{After-cursor_back-c, After-cursor_label-label, After-cursor_label-own, At-loop-k, In-At, In-At-label, Start as Start-place}
 
@@ -61,25 +59,15 @@ cursor_at-c-requires c = record { sound = sound c; near = near c }
 pub cursor_label-own-requires : goal.cursor_label-own-requires
 cursor_label-own-requires c = record { sound = sound (goal.at.cursor_label-own-requires c).Start; standing = (T (goal.at.cursor_label-own-requires c).Start, near (goal.at.cursor_label-own-requires c).Start, c.cursor_at-c.ensures) }
 
-pub returns-in_default : goal.returns-in_default
-returns-in_default c j e =
-    let l = (goal.at.returns-in_default c).After-cursor_label-own in
-    let s = (goal.at.After-cursor_label-own l).Start in
-    let p = s.ranges.period in
-    let d = s.ranges.distance in
-    let t = s.ranges.t in
-    let h = simp plain at (l.cursor_label-own.ensures (T s) l.cursor_at-c.ensures) in
-    absurd (none≢some (ap found (sym c.enum_told-1.given.1) ∙ h ∙ e))
-
 -- the label of t
-own-fits : (c : In-At) → SFits w64 c.own-1.given.0.0
-own-fits c = sfits_of c.known_told-1.given.0.1
+own-fits : (c : In-At) → SFits w64 c.in-At.j
+own-fits c = search rules
 
-own-label : (c : In-At) → meant (row (goal.at.In-At c).Start) (T (goal.at.In-At c).Start) ≡ some (to_z w64 (of_z w64 c.own-1.given.0.0))
+own-label : (c : In-At) → meant (row (goal.at.In-At c).Start) (T (goal.at.In-At c).Start) ≡ some (to_z w64 (of_z w64 c.in-At.j))
 own-label c =
     let l = (goal.at.In-At c).After-cursor_label-own in
     let s = (goal.at.After-cursor_label-own l).Start in
-    sym (l.cursor_label-own.ensures (T s) l.cursor_at-c.ensures) ∙ ap found c.own-1.given.1 ∙ ap some (sym (to_z-of_z (own-fits c)))
+    sym (l.cursor_label-own.ensures (T s) l.cursor_at-c.ensures) ∙ ap found c.in-At.is ∙ ap some (sym (to_z-of_z (own-fits c)))
 
 pub loop-k-init : goal.loop-k-init
 loop-k-init c =
@@ -136,37 +124,37 @@ label_is : (d : After-cursor_label-label) → meant (row (start d)) (instant d) 
 label_is d = ap (meant (row (start d))) (instant-is d) ∙ sym (d.cursor_label-label.ensures (there (at-loop d)) (moved (goal.at.After-cursor_label-label d).After-cursor_back-c))
 
 -- where it has one
-label-fits : (c : In-At-label) → SFits w64 c.label-1.given.0.0
-label-fits c = sfits_of c.known_told-in-At-label-1.given.0.1
+label-fits : (c : In-At-label) → SFits w64 c.in-At-label.k
+label-fits c = search rules
 
-label-some : (c : In-At-label) → meant (row (start (goal.at.In-At-label c).After-cursor_label-label)) (instant (goal.at.In-At-label c).After-cursor_label-label) ≡ some (to_z w64 (of_z w64 c.label-1.given.0.0))
+label-some : (c : In-At-label) → meant (row (start (goal.at.In-At-label c).After-cursor_label-label)) (instant (goal.at.In-At-label c).After-cursor_label-label) ≡ some (to_z w64 (of_z w64 c.in-At-label.k))
 label-some c =
     label_is (goal.at.In-At-label c).After-cursor_label-label
-    ∙ ap found c.label-1.given.1
+    ∙ ap found c.in-At-label.is
     ∙ ap some (sym (to_z-of_z (label-fits c)))
 
 pub returns-then-k-j : goal.returns-then-k-j
 returns-then-k-j c j e =
     let d = (goal.at.returns-then-k-j c).After-cursor_label-label in
     let s = start d in
-    let b = (at-loop d).loop.invariant in
+    let b = (at-loop d).loop-k.invariant in
     let k = label-fits (goal.at.returns-then-k-j c).In-At-label in
-    let o = own-fits (at-loop d).before in
+    let o = own-fits (goal.at.At-loop-k (at-loop d)).In-At in
     let f =
     placing-end (row s) (rules_own s) (T s) _ _ _ _ (instant d) _ b (cursor-is d) (instant-is d) _ (label-some (goal.at.returns-then-k-j c).In-At-label)
     (λ q. c.if-k-j.true (ap (of_z w64) (sym (to_z-of_z k) ∙ q ∙ to_z-of_z o))) in
-    read-holds s.args.cells.now s.ranges.period s.ranges.distance s.ranges.t (λ r u i. (at-loop d).loop.count ≡ place r i u) f b.walk.own-1 e
+    read-holds s.args.cells.now s.ranges.period s.ranges.distance s.ranges.t (λ r u i. (at-loop d).loop-k.count ≡ place r i u) f b.walk.own e
 
 pub overflow_add-count : goal.overflow_add-count
 overflow_add-count c =
     let d = (goal.at.overflow_add-count c).After-cursor_label-label in
     let s = start d in
     let n = numbers (P s) (N s) s.args.cells.now (sound s) in
-    let b = (at-loop d).loop.invariant in
+    let b = (at-loop d).loop-k.invariant in
     b.few ∴ b.walk.high ∴ n.high ∴ simp ints (omega arith)
 
 less : (d : After-cursor_label-label) → let s = start d in left true (up (P s)) (T s) (instant d) < left true (up (P s)) (T s) (here (at-loop d))
-less d = walk-less (row (start d)) (rules_own (start d)) true (T (start d)) _ _ _ _ (instant d) _ (at-loop d).loop.invariant.walk (cursor-is d) (instant-is d)
+less d = walk-less (row (start d)) (rules_own (start d)) true (T (start d)) _ _ _ _ (instant d) _ (at-loop d).loop-k.invariant.walk (cursor-is d) (instant-is d)
 
 pub loop-k-smaller-in-At-label : goal.loop-k-smaller-in-At-label
 loop-k-smaller-in-At-label c = less (goal.at.loop-k-smaller-in-At-label c).After-cursor_label-label
@@ -175,7 +163,7 @@ pub loop-k-preserved-in-At-label : goal.loop-k-preserved-in-At-label
 loop-k-preserved-in-At-label c =
     let d = (goal.at.loop-k-preserved-in-At-label c).After-cursor_label-label in
     let s = start d in
-    placing-to (row s) (rules_own s) (T s) _ _ _ _ (instant d) _ (at-loop d).loop.invariant (cursor-is d) (instant-is d) (label-some (goal.at.loop-k-preserved-in-At-label c).In-At-label ∙ ap (λ (n : ℕ). some (to_z w64 n)) c.if-k-j.false)
+    placing-to (row s) (rules_own s) (T s) _ _ _ _ (instant d) _ (at-loop d).loop-k.invariant (cursor-is d) (instant-is d) (label-some (goal.at.loop-k-preserved-in-At-label c).In-At-label ∙ ap (λ (n : ℕ). some (to_z w64 n)) c.if-k-j.false)
 
 pub loop-k-smaller : goal.loop-k-smaller
 loop-k-smaller c = less (goal.at.loop-k-smaller c).After-cursor_label-label
@@ -184,4 +172,4 @@ pub loop-k-preserved : goal.loop-k-preserved
 loop-k-preserved c =
     let d = (goal.at.loop-k-preserved c).After-cursor_label-label in
     let s = start d in
-    placing-past (row s) (rules_own s) (T s) _ _ _ _ (instant d) _ (at-loop d).loop.invariant (cursor-is d) (instant-is d) (label_is d ∙ ap found c.enum_told-in-Nothing-1.given.1)
+    placing-past (row s) (rules_own s) (T s) _ _ _ _ (instant d) _ (at-loop d).loop-k.invariant (cursor-is d) (instant-is d) (label_is d ∙ ap found c.in-Nothing.is)
