@@ -1,5 +1,4 @@
 -- `sizes::alter_period` meets its contract: with m = D/gcd(D, Na), r·D is Na·m.
-use borrow.Author.Rules.{rules}
 use mathlib.Core.Path.{◌≡◌, sym, ◌∙◌, ap, ap₂}
 use Prim.Native.Nat.{ℕ, ◌*◌, ◌/◌}
 use native.Mathlib.Omega.{arith}

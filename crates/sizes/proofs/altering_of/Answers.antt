@@ -1,5 +1,4 @@
 -- `sizes::altering_of` meets its contract: its quotients are those of lcm(A, x) by A and by x, and no product wraps.
-use borrow.Author.Rules.{rules}
 use native.Mathlib.Omega.{arith}
 use Rattle.integers.proofs.Linear.{ints, ◌∴◌}
 use Rattle.integers.proofs.Machine.{plain}
@@ -58,4 +57,8 @@ returns c =
     let k = (overflow_cast-result c).sfits in
     let p = (known c).changed-fits in
     let q = fine-fits (known c) in
-    record { coarse = (((known c).coarse, (simp plain (known c).fine, (known c).coarse-at-most))).0; fine = (((known c).coarse, (simp plain (known c).fine, (known c).coarse-at-most))).1; bound = (((known c).coarse, (simp plain (known c).fine, (known c).coarse-at-most))).2 }
+    record {
+      coarse = (known c).coarse;
+      fine = simp plain (known c).fine;
+      bound = (known c).coarse-at-most;
+    }

@@ -1,5 +1,4 @@
 -- `sizes::group_period` meets its contract: the greatest common divisor divides x, so the division may be made before the product.
-use borrow.Author.Rules.{rules}
 use mathlib.Core.Path.{sym, ◌∙◌, ap}
 use Prim.Native.Nat.{ℕ, ◌*◌, ◌/◌}
 use native.Mathlib.Omega.{arith}

@@ -1,5 +1,4 @@
 -- `sizes::rise` meets its contract: the product is at most the span.
-use borrow.Author.Rules.{rules}
 use native.Mathlib.Omega.{arith}
 use Rattle.sizes.specs.Stored.{turn_of}
 use Rattle.algebra.proofs.Span.{rise-at-most}

@@ -1,5 +1,4 @@
 -- `sizes::span` meets its contract: the span is a least common multiple.
-use borrow.Author.Rules.{rules}
 use Rattle.calendar.specs.Size.{span_of}
 use Rattle.sizes.proofs.span.Goals as goal
 
