@@ -8,7 +8,7 @@ use lib.IntN.{pos, negsuc}
 use lib.Dec.{T, leb, eqb, leb→le, lit≤, eqb→eq, eqb-suc-zero}
 use lib.Pow.{pow_pos}
 use borrow.Author.Tests.{le-leb, eq-eqb, ne_eqb}
-use lib.Ieee.{Float, nan, inf, fin, binary64, up, down, mul, lt, le, eq, ne}
+use lib.Ieee.{Float, nan, inf, fin, binary64, up, down, mul, lt, le, ne}
 use lib.Ieee.Fits.{up_pos, and_l, and_r}
 use lib.Ieee.Exact.{HasValue}
 use lib.Ieee.Positive.{num, den, den_pos}

@@ -1,5 +1,4 @@
 -- `floats::allowed` meets its contract.
-use borrow.Author.Rules.{rules}
 use Rattle.floats.proofs.allowed.Goals as goal
 
 pub returns-in-Fixed : goal.returns-in-Fixed

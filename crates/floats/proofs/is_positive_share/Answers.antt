@@ -1,6 +1,5 @@
 -- `floats::is_positive_share` meets its contract.
 use mathlib.Core.Path.{sym, ◌∙◌}
-use borrow.Author.Rules.{rules}
 use lib.Ieee.{of_bits, ne}
 use Rattle.floats.specs.Allowance.{share}
 use Rattle.floats.proofs.Words.{positive-zero, and_then, and-else, positive-share-tests}

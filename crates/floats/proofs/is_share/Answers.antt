@@ -1,7 +1,6 @@
 -- `floats::is_share` meets its contract.
 use mathlib.Core.Path.{◌≡◌, sym, ◌∙◌, subst}
 use mathlib.Core.Bool.{Bool, true}
-use borrow.Author.Rules.{rules}
 use lib.Dec.{T, leb}
 use lib.Ieee.{of_bits}
 use lib.Ieee.Positive.{num, den}

@@ -2,7 +2,6 @@
 use mathlib.Core.Path.{◌≡◌, sym, ap, ◌∙◌, subst}
 use mathlib.Core.Bool.{Bool, true}
 use native.Mathlib.Omega.{arith}
-use borrow.Author.Rules.{rules}
 use lib.Dec.{T}
 use Rattle.floats.proofs.Whole.{cast_fits}
 use Rattle.floats.specs.Allowance.{is_allowed, may_be_late}
@@ -20,10 +19,10 @@ int_to_float-result c = cast_fits _ (omega arith)
 
 pub returns-in-Fixed : goal.returns-in-Fixed
 returns-in-Fixed c =
-    let e = c.a-1.given.1 in
+    let e = c.in-Fixed.is in
     late-fixed _ _ (omega arith) (passed (sym (ap is_allowed e) ∙ c.requires.2)) ∙ sym (ap (may_be_late _ _) e)
 
 pub returns-in-Share : goal.returns-in-Share
 returns-in-Share c =
-    let e = c.a-in-Share-1.given.1 in
+    let e = c.in-Share.is in
     late-share _ (positive-share _ (passed (sym (ap is_allowed e) ∙ c.requires.2))) _ _ (omega arith) (omega arith) ∙ sym (ap (may_be_late _ _) e)

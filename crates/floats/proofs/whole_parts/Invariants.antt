@@ -1,12 +1,6 @@
 -- `floats::whole_parts` meets its contract: v lies from low / 256 on and below high / 256.
-use mathlib.Core.Path.{◌≡◌, sym, ◌∙◌, subst}
-use mathlib.Core.Bool.{Bool, true}
-use Prim.Native.Nat.{ℕ, suc, ◌-◌, ◌*◌, ◌/◌, ◌≤◌, ◌<◌}
-use native.Mathlib.Omega.{arith}
-use lib.Dec.{T}
-use borrow.Author.Tests.{leb-true, leb-false}
-use lib.Ieee.Positive.{num, den, den_pos}
-use Rattle.floats.proofs.Parts.{not-above}
+use Prim.Native.Nat.{◌-◌, ◌*◌, ◌≤◌, ◌<◌}
+use lib.Ieee.Positive.{num, den}
 use Rattle.floats.proofs.whole_parts.Given as goal
 
 abbrev pub invariant-loop-high : goal.invariant-loop-high
