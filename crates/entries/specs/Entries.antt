@@ -6,7 +6,6 @@ use Rattle.calendar.specs.Refusals.{number_of}
 use Rattle.calendar.specs.Table as Table
 use Rattle.entries.specs.declared.Entry.{Entry}
 use Rattle.entries.specs.declared.Begun.{Begun}
-use Rattle.entries.specs.declared.Begun.TheVariants as Begun
 
 -- the six numbers of an entry of the code
 abbrev pub entry_of : Entry → Table.Entry

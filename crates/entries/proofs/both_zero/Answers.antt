@@ -1,6 +1,5 @@
 -- `entries::both_zero` meets its contract: the second number is tested where the first is 0.
 -- Assumes nothing.
-use borrow.Author.Rules.{rules}
 use mir.ValLaws.{to_z-of_z}
 use Rattle.entries.proofs.both_zero.Goals as goal
 

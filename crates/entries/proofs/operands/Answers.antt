@@ -1,6 +1,5 @@
 -- `entries::operands` meets its contract: the array is the column of the kinds' table.
 -- Assumes nothing.
-use borrow.Author.Rules.{rules}
 use lib.ListN.{get_or-map}
 use Rattle.calendar.specs.Table.{kinds, no_operand}
 use Rattle.entries.proofs.operands.Goals as goal
