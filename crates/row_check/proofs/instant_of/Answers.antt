@@ -4,7 +4,7 @@ use mathlib.Core.Path.{◌≡◌, sym, ◌∙◌, ap, ap₂, subst}
 use mathlib.Core.Option.{some}
 use Prim.Native.Nat.{◌<◌, ◌^◌}
 use native.Mathlib.Omega.{arith}
-use borrow.Author.Rules.{rules, sfits_of}
+use borrow.Author.Rules.{sfits_of}
 use lib.IntN.{ℤ, pos, ◌+ℤ◌, ◌-ℤ◌, ◌*ℤ◌}
 use mir.Facts.{to_z-of_z}
 use mir.Syntax.{w32, w64}
@@ -112,25 +112,13 @@ pub returns-then-i-cells : goal.returns-then-i-cells
 returns-then-i-cells c =
     let s = (goal.at.returns-then-i-cells c).Start in
     let e = read_as {w = w64} {x = instant c} (instant-is c) (fits c) in record {
-      result_value = ((
-        ap some e ∙ instant-found s.args.period s.args.distance s.args.cells.now s.requires.sound s.args.z s.requires.within c.position-i.result (place_is (goal.at.returns-then-i-cells c).After-position-i) c.if-i-cells.true,
-        λ t h. subst (Within (2 ^ 54)) (sym e ∙ some_inj h) (within c),
-      )).0;
-      within_2 = ((
-        ap some e ∙ instant-found s.args.period s.args.distance s.args.cells.now s.requires.sound s.args.z s.requires.within c.position-i.result (place_is (goal.at.returns-then-i-cells c).After-position-i) c.if-i-cells.true,
-        λ t h. subst (Within (2 ^ 54)) (sym e ∙ some_inj h) (within c),
-      )).1;
+      result_value = ap some e ∙ instant-found s.args.period s.args.distance s.args.cells.now s.requires.sound s.args.z s.requires.within c.position-i.result (place_is (goal.at.returns-then-i-cells c).After-position-i) c.if-i-cells.true;
+      within_2 = λ t h. subst (Within (2 ^ 54)) (sym e ∙ some_inj h) (within c);
     }
 
 pub returns-else-i-cells : goal.returns-else-i-cells
 returns-else-i-cells c =
     let s = (goal.at.returns-else-i-cells c).Start in record {
-      result_value = ((
-        instant-none s.args.period s.args.distance s.args.cells.now s.requires.sound s.args.z s.requires.within c.position-i.result (place_is (goal.at.returns-else-i-cells c).After-position-i) c.if-i-cells.false,
-        λ t h. absurd (none≢some h),
-      )).0;
-      within_2 = ((
-        instant-none s.args.period s.args.distance s.args.cells.now s.requires.sound s.args.z s.requires.within c.position-i.result (place_is (goal.at.returns-else-i-cells c).After-position-i) c.if-i-cells.false,
-        λ t h. absurd (none≢some h),
-      )).1;
+      result_value = instant-none s.args.period s.args.distance s.args.cells.now s.requires.sound s.args.z s.requires.within c.position-i.result (place_is (goal.at.returns-else-i-cells c).After-position-i) c.if-i-cells.false;
+      within_2 = λ t h. absurd (none≢some h);
     }

@@ -6,7 +6,7 @@ use mathlib.Core.Bool.{true}
 use mathlib.Core.List.{List}
 use Prim.Native.Nat.{ℕ, ◌<◌}
 use native.Mathlib.Omega.{arith}
-use borrow.Author.Rules.{rules, sfits_of}
+use borrow.Author.Rules.{sfits_of}
 use lib.IntN.{ℤ, pos, negsuc, ◌+ℤ◌}
 use lib.Signed.{◌≤ℤ◌, le_z, clash_ℤ}
 use lib.ListN.{length, get_or, drop}
@@ -54,24 +54,24 @@ pub returns-in_default : goal.returns-in_default
 returns-in_default c =
     let l = (goal.at.returns-in_default c).After-last_label-end in
     let a = (goal.at.After-last_label-end l).After-wide-first in
-    sym (sound-falls (up a.args.distance) (cells a) empty (some-label a) (sym (end_is l) ∙ ap found c.enum_told-1.given.1))
+    sym (sound-falls (up a.args.distance) (cells a) empty (some-label a) (sym (end_is l) ∙ ap found c.in_default.is))
 
 -- the test that is left
 abbrev N : In-At → ℕ
 N c = up c.args.distance
 
 abbrev last : In-At → ℤ
-last c = c.end-1.given.0.0
+last c = c.in-At.last
 
 last_fits : (c : In-At) → SFits w64 (last c)
-last_fits c = sfits_of c.known_told-1.given.0.1
+last_fits c = sfits_of c.in-At.known_told-1-own.given.0.1
 
 test : (c : In-At) → (labels_sound (N c) (cells (goal.at.In-At c).After-wide-first) ≡ true)
     ↔ (((negsuc 999999999 ≤ℤ first (goal.at.In-At c).After-wide-first) × (last c ≤ℤ pos 1000000000)) × (last c ≤ℤ (first (goal.at.In-At c).After-wide-first +ℤ pos (N c))))
 test c =
     let l = (goal.at.In-At c).After-last_label-end in
     let a = (goal.at.After-last_label-end l).After-wide-first in
-    sound-rises (N c) (cells a) empty (some-label a) (last c) (sym (end_is l) ∙ ap found c.end-1.given.1)
+    sound-rises (N c) (cells a) empty (some-label a) (last c) (sym (end_is l) ∙ ap found c.in-At.is)
 
 pub returns-then-first-lt-LEAST_LABEL : goal.returns-then-first-lt-LEAST_LABEL
 returns-then-first-lt-LEAST_LABEL c =

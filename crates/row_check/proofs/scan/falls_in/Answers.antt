@@ -2,8 +2,7 @@
 -- Assumes nothing.
 use mathlib.Core.Path.{◌≡◌, refl, sym, ◌∙◌, ap, ap₂, subst}
 use mathlib.Core.Logic.{⊎_elim}
-use mathlib.Core.List.{List}
-use Prim.Native.Nat.{ℕ, ◌+◌, ◌-◌, ◌≤◌, ◌<◌}
+use Prim.Native.Nat.{ℕ, ◌+◌, ◌-◌, ◌<◌}
 use native.Mathlib.Omega.{arith}
 use borrow.Author.Rules.{sfits_of}
 use lib.IntN.{ℤ, pos}
@@ -18,7 +17,6 @@ use Rattle.calendar.specs.Meaning.{empty}
 use Rattle.cursors.proofs.Cells.{get_d_any}
 use Rattle.row_check.specs.Order.{risen, risen_behind}
 use Rattle.row_check.proofs.Order.{risen-on}
-use Rattle.row_check.proofs.scan.falls_in.Invariants.{Inv}
 use Rattle.row_check.proofs.scan.falls_in.Goals as goal
 use Rattle.row_check.proofs.scan.falls_in.Goals.{At-loop-i, Start}
 
@@ -39,15 +37,15 @@ loop-i-preserved c =
     let low : empty ≤ℤ get_or l (i - 1) empty = subst (λ (z : ℤ). empty ≤ℤ z) y (g ∴ simp ints (omega arith)) in
     let e : i ≡ i + 1 - 1 = omega arith in
     ⊎_elim
-    (λ w. record { few = omega arith; within = omega arith; same = λ n. absurd (omega (arith, n, w.1)) })
+    (λ w. record { few = omega arith; within = omega arith; same = λ n. absurd (omega (arith, n, w.count-is)) })
     (λ w.
-    let o = (test-not-lt (get_or l i (pos 0)) (get_or l (i - 1) (pos 0))).0 (rw (to_z-of_z f, to_z-of_z g) at w.0.left) in
+    let o = (test-not-lt (get_or l i (pos 0)) (get_or l (i - 1) (pos 0))).0 (rw (to_z-of_z f, to_z-of_z g) at w.if-cells-i.false) in
     let t = ap₂ le_z (sym y) (sym x) ∙ (test-le (get_or l (i - 1) (pos 0)) (get_or l i (pos 0))).1 o in
     record {
       few = omega arith;
       within = omega arith;
       same = λ n.
-          k.invariant.same (sym w.1 ∙ n)
+          k.invariant.same (sym w.count-is ∙ n)
           ∙ risen-on l i empty here (get_or l (i - 1) empty) low t
           ∙ ap (λ (m : ℕ). risen (get_or l m empty) (drop (i + 1) l)) e;
     })

@@ -2,9 +2,9 @@
 -- Assumes nothing.
 use mathlib.Core.Path.{sym, ◌∙◌, ap}
 use Prim.Native.Nat.{ℕ}
-use native.Mathlib.Omega.{arith}
-use borrow.Author.Rules.{rules, sfits_of}
+use borrow.Author.Rules.{sfits_of}
 use lib.ListN.{get_or}
+use mir.Syntax.{w64}
 use mir.Facts.{to_z-of_z}
 use Rattle.calendar.specs.Meaning.{empty}
 use Rattle.row_check.proofs.Instants.{first-label}

@@ -1,7 +1,6 @@
 -- `row_check::scan::last_label` meets its contract: the labels go on from the cell up to which they rise.
 -- Assumes nothing.
 use mathlib.Core.Path.{sym, ◌∙◌}
-use borrow.Author.Rules.{rules}
 use Rattle.row_check.proofs.scan.last_label.Goals as goal
 
 pub returns : goal.returns

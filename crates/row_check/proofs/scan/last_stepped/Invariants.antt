@@ -1,26 +1,13 @@
 -- `row_check::scan::last_stepped` meets its contract: the loop keeps the answer, by the last label so far and the cells that are left, an even number.
 -- Assumes nothing.
-use mathlib.Core.Path.{◌≡◌, refl, sym, ◌∙◌, ap, subst}
-use mathlib.Core.Option.{some}
-use mathlib.Core.Logic.{⊎_elim}
-use mathlib.Core.Bool.{true}
+use mathlib.Core.Path.{◌≡◌}
 use mathlib.Core.List.{List}
-use Prim.Native.Nat.{ℕ, zero, suc, ◌+◌, ◌-◌, ◌*◌, ◌/◌, ◌%◌, ◌≤◌, ◌<◌}
-use native.Mathlib.Nat.{div-add-mod, mod-lt}
-use native.Mathlib.Omega.{arith}
-use borrow.Author.Rules.{sfits_of}
-use lib.IntN.{ℤ, pos}
-use lib.Signed.{le_z}
-use lib.ListN.{length, get_or, drop}
-use mir.Facts.{to_z-of_z}
+use Prim.Native.Nat.{ℕ, ◌+◌, ◌-◌, ◌*◌, ◌≤◌}
+use lib.IntN.{ℤ}
+use lib.ListN.{length, drop}
 use mir.Syntax.{w32}
-use mir.Val.{SFits, of_z, to_z}
-use Rattle.integers.proofs.Linear.{ints, ◌∴◌}
-use Rattle.integers.proofs.Machine.{test-le, widened}
-use Rattle.calendar.specs.Meaning.{empty}
+use mir.Val.{SFits}
 use Rattle.row_check.specs.Order.{risen, risen_from}
-use Rattle.cursors.proofs.Cells.{get_d_any, bits-empty, bits_full}
-use Rattle.row_check.proofs.Order.{risen-past, risen-falls, risen-on, risen-end}
 use Rattle.row_check.proofs.scan.last_stepped.Given as goal
 
 -- up to the cell i no label falls, and the last one is `last`

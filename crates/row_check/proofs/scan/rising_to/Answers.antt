@@ -1,15 +1,13 @@
 -- `row_check::scan::rising_to` meets its contract: from block to block the labels go on from the last cell that was passed.
 -- Assumes nothing.
-use mathlib.Core.Path.{◌≡◌, sym, ◌∙◌, ap}
-use mathlib.Core.List.{List}
-use Prim.Native.Nat.{ℕ, ◌+◌, ◌-◌, ◌≤◌, ◌<◌}
+use mathlib.Core.Path.{◌≡◌, ◌∙◌, ap}
+use Prim.Native.Nat.{ℕ, ◌+◌, ◌-◌}
 use native.Mathlib.Omega.{arith}
-use lib.IntN.{ℤ}
-use lib.ListN.{length, get_or, drop}
+use lib.ListN.{get_or, drop}
 use Rattle.calendar.specs.Meaning.{empty}
-use Rattle.row_check.specs.Order.{risen, risen_from, risen_behind}
+use Rattle.row_check.specs.Order.{risen}
 use Rattle.row_check.proofs.Order.{risen-own}
-use Rattle.row_check.proofs.scan.rising_to.Invariants.{Inv, passed}
+use Rattle.row_check.proofs.scan.rising_to.Invariants.{passed}
 use Rattle.row_check.proofs.scan.rising_to.Goals as goal
 use Rattle.row_check.proofs.scan.rising_to.Goals.{At-loop-i}
 

@@ -1,6 +1,6 @@
 -- `row_check::scan::wide` meets its contract: an element of a slice of `i32` fits 32 bits, so both casts keep it.
 -- Assumes nothing.
-use borrow.Author.Rules.{rules, sfits_of}
+use borrow.Author.Rules.{sfits_of}
 use lib.IntN.{pos}
 use lib.ListN.{get_or}
 use mir.Syntax.{w32}
