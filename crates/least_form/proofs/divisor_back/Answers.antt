@@ -1,7 +1,7 @@
 -- `least_form::divisor_back` meets its contract. The loop keeps that no divisor is above d; 1 is the last.
 -- Assumes nothing.
 use native.Mathlib.Omega.{arith}
-use Rattle.least_form.proofs.Divisors.{Above, above-start, above-pos, above-less, above-greatest}
+use Rattle.least_form.proofs.Divisors.{above-start, above-pos, above-less, above-greatest}
 use Rattle.least_form.proofs.divisor_back.Goals as goal
 use Rattle.least_form.proofs.divisor_back.Goals.{At-loop-d}
 

@@ -1,7 +1,6 @@
 -- `least_form::divisor_back` meets its contract. The loop keeps that no divisor is above d; 1 is the last.
 -- Assumes nothing.
-use native.Mathlib.Omega.{arith}
-use Rattle.least_form.proofs.Divisors.{Above, above-start, above-pos, above-less, above-greatest}
+use Rattle.least_form.proofs.Divisors.{Above}
 use Rattle.least_form.proofs.divisor_back.Given as goal
 
 abbrev pub invariant-loop-d : goal.invariant-loop-d

@@ -1,8 +1,6 @@
 -- `least_form::divisor_on` meets its contract. The loop keeps that no divisor was passed.
 -- Assumes nothing.
-use Prim.Native.Nat.{◌-◌}
 use native.Mathlib.Omega.{arith}
-use Rattle.least_form.specs.Divisors.{Passed}
 use Rattle.least_form.proofs.Divisors.{passed_start, passed-more}
 use Rattle.least_form.proofs.divisor_on.Goals as goal
 use Rattle.least_form.proofs.divisor_on.Goals.{Start}

@@ -1,9 +1,7 @@
 -- `least_form::divisor_on` meets its contract. The loop keeps that no divisor was passed.
 -- Assumes nothing.
 use Prim.Native.Nat.{◌-◌}
-use native.Mathlib.Omega.{arith}
 use Rattle.least_form.specs.Divisors.{Passed}
-use Rattle.least_form.proofs.Divisors.{passed_start, passed-more}
 use Rattle.least_form.proofs.divisor_on.Given as goal
 
 abbrev pub invariant-loop-d : goal.invariant-loop-d

@@ -1,18 +1,13 @@
 -- `least_form::first_other` meets its contract. The loop keeps that each cell of the blocks passed is repeated; the first block
 -- with one that is not ends it, and the cell is found there.
 -- Assumes nothing.
-use mathlib.Core.Path.{◌≡◌}
-use mathlib.Core.List.{List}
-use Prim.Native.Nat.{ℕ, ◌+◌, ◌-◌, ◌≤◌, ◌<◌}
+use Prim.Native.Nat.{ℕ}
 use native.Mathlib.Omega.{arith}
-use lib.IntN.{ℤ}
-use lib.ListN.{length}
 use mir.Facts.{to_z-of_z}
 use mir.Syntax.{w32}
 use mir.Val.{of_z, to_z}
 use Rattle.least_form.specs.Cells.{RepeatsAt}
 use Rattle.least_form.proofs.Cells.{joined, first-less}
-use Rattle.least_form.proofs.first_other.Invariants.{Inv}
 use Rattle.least_form.proofs.first_other.Goals as goal
 use Rattle.least_form.proofs.first_other.Goals.{After-others_in, At-loop-t, Start}
 

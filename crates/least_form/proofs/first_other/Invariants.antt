@@ -4,14 +4,9 @@
 use mathlib.Core.Path.{◌≡◌}
 use mathlib.Core.List.{List}
 use Prim.Native.Nat.{ℕ, ◌+◌, ◌-◌, ◌≤◌, ◌<◌}
-use native.Mathlib.Omega.{arith}
 use lib.IntN.{ℤ}
 use lib.ListN.{length}
-use mir.Facts.{to_z-of_z}
-use mir.Syntax.{w32}
-use mir.Val.{of_z, to_z}
 use Rattle.least_form.specs.Cells.{RepeatsAt}
-use Rattle.least_form.proofs.Cells.{joined, first-less}
 use Rattle.least_form.proofs.first_other.Given as goal
 
 pub record Inv (cells : List ℤ) (q : ℕ) (rise : ℤ) (n t : ℕ) : Type 0 where

@@ -4,7 +4,6 @@
 use mathlib.Core.Path.{◌≡◌, sym, ◌∙◌, ap, ap₂}
 use mathlib.Core.Logic.{◌↔◌}
 use mathlib.Core.Bool.{true}
-use mathlib.Core.List.{List}
 use Prim.Native.Nat.{ℕ, ◌*◌, ◌/◌, ◌≤◌, ◌∣◌}
 use native.Mathlib.Nat.{div-le_self}
 use native.Mathlib.Omega.{arith}
@@ -31,7 +30,7 @@ use Rattle.granules.proofs.Sound.{sound-valid}
 use Rattle.least_form.proofs.Cells.{low}
 use Rattle.least_form.proofs.Common.{common-is, common-pos, common-at-most}
 use Rattle.least_form.proofs.Turns.{Passes}
-use Rattle.least_form.proofs.Search.{Searched, Found, search-start, search-found, search-next, search-last, least-dvd}
+use Rattle.least_form.proofs.Search.{Found, search-start, search-found, search-next, search-last, least-dvd}
 use Rattle.least_form.proofs.least_period.Invariants.{row}
 use Rattle.least_form.proofs.least_period.Goals as goal
 use Rattle.least_form.proofs.least_period.Goals.{After-gcd-g, After-try_period-outcome, Start}
@@ -119,17 +118,11 @@ pub try_period-outcome-requires : goal.try_period-outcome-requires
 try_period-outcome-requires c =
     let s = (goal.at.try_period-outcome-requires c).Start in
     let m = c.loop-m.m in
-    let a = s.args in record {
-      q_in_bounds = ((
-        omega (arith, (valid s).whole, div-le_self (p s) m),
-        rw (rise-is s m)
-            (simp ints (omega (arith, n-small s, div-le_self (n s) m)), low a.period a.distance a.cells.now s.requires.cells_value),
-      )).0;
-      rise = ((
-        omega (arith, (valid s).whole, div-le_self (p s) m),
-        rw (rise-is s m)
-            (simp ints (omega (arith, n-small s, div-le_self (n s) m)), low a.period a.distance a.cells.now s.requires.cells_value),
-      )).1;
+    let a = s.args in
+    record {
+      q_in_bounds = omega (arith, (valid s).whole, div-le_self (p s) m);
+      rise = rw (rise-is s m)
+          (simp ints (omega (arith, n-small s, div-le_self (n s) m)), low a.period a.distance a.cells.now s.requires.cells_value);
     }
 
 -- the start and the divisor of a turn
@@ -151,10 +144,10 @@ overflow_cast-result c =
 -- what was found is the answer
 answer : (c : Start) (z : ℤ) (period tried : ℕ) → z ≡ pos period → Found (own c) period tried
     → (z ≡ pos (least (handed c)).period)
-    × (((up z ∣ up c.args.period) × (up c.args.period ∣ up c.args.distance * up z)) × (tried ≡ tries (handed c)))
+    × ((up z ∣ up c.args.period) × (up c.args.period ∣ up c.args.distance * up z)) × (tried ≡ tries (handed c))
 answer c z period tried is f =
     let e : z ≡ pos (least (handed c)).period = is ∙ ap pos (f.least-is ∙ ap (λ (r : Row). (least r).period) (own_is c)) in
-    (e, (rw e (least-dvd (handed c) (sound-valid (handed c) c.requires.cells_value)), f.tries-is ∙ ap tries (own_is c)))
+    (e, rw e (least-dvd (handed c) (sound-valid (handed c) c.requires.cells_value)), f.tries-is ∙ ap tries (own_is c))
 
 pub returns-then-outcome : goal.returns-then-outcome
 returns-then-outcome c =
@@ -162,17 +155,10 @@ returns-then-outcome c =
     let s = start a in
     let m = turn a in
     let k = a.loop-m in
-    record {
-      least = (answer s _ (p s / m) k.tried
-          (to_z_pos w64 (p s / m) (omega (arith, p-small s, div-le_self (p s) m)))
-          (search-found (own s) (valid s) m k.tried k.invariant ((tested a).0 c.if-outcome.true))).0;
-      divides = (answer s _ (p s / m) k.tried
-          (to_z_pos w64 (p s / m) (omega (arith, p-small s, div-le_self (p s) m)))
-          (search-found (own s) (valid s) m k.tried k.invariant ((tested a).0 c.if-outcome.true))).1;
-      tried = (answer s _ (p s / m) k.tried
-          (to_z_pos w64 (p s / m) (omega (arith, p-small s, div-le_self (p s) m)))
-          (search-found (own s) (valid s) m k.tried k.invariant ((tested a).0 c.if-outcome.true))).2;
-    }
+    let e = answer s _ (p s / m) k.tried
+    (to_z_pos w64 (p s / m) (omega (arith, p-small s, div-le_self (p s) m)))
+    (search-found (own s) (valid s) m k.tried k.invariant ((tested a).0 c.if-outcome.true)) in
+    record { least = e.0; divides = e.1; tried = e.2 }
 
 pub next_divisor-m-requires : goal.next_divisor-m-requires
 next_divisor-m-requires c =
@@ -204,14 +190,7 @@ pub returns : goal.returns
 returns c =
     let s = (goal.at.returns c).Start in
     let k = c.loop-m in
-    record {
-      least = (answer s _ (p s) k.tried
-          (to_z-of_z s.ranges.period ∙ (known s).period-is ∙ ap pos (sym (p-is s)))
-          (search-last (own s) (valid s) k.m k.tried k.invariant c.loop-m-test.false)).0;
-      divides = (answer s _ (p s) k.tried
-          (to_z-of_z s.ranges.period ∙ (known s).period-is ∙ ap pos (sym (p-is s)))
-          (search-last (own s) (valid s) k.m k.tried k.invariant c.loop-m-test.false)).1;
-      tried = (answer s _ (p s) k.tried
-          (to_z-of_z s.ranges.period ∙ (known s).period-is ∙ ap pos (sym (p-is s)))
-          (search-last (own s) (valid s) k.m k.tried k.invariant c.loop-m-test.false)).2;
-    }
+    let e = answer s _ (p s) k.tried
+    (to_z-of_z s.ranges.period ∙ (known s).period-is ∙ ap pos (sym (p-is s)))
+    (search-last (own s) (valid s) k.m k.tried k.invariant c.loop-m-test.false) in
+    record { least = e.0; divides = e.1; tried = e.2 }

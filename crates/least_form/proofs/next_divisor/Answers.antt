@@ -1,6 +1,5 @@
 -- `least_form::next_divisor` meets its contract: a smaller divisor has a greater cofactor, and the first of these is looked for.
 -- Assumes nothing.
-use borrow.Author.Rules.{rules}
 use Prim.Native.Nat.{◌+◌, ◌/◌, ◌≤◌, ◌<◌}
 use native.Mathlib.Nat.{le-div_iff_mul-le}
 use native.Mathlib.Omega.{arith}

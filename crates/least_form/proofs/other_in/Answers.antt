@@ -2,16 +2,13 @@
 -- Assumes nothing.
 use borrow.Author.Count.{below_more}
 use borrow.Author.Tests.{not-true, not-false}
-use mathlib.Core.List.{List}
-use Prim.Native.Nat.{ℕ, ◌-◌, ◌≤◌}
+use Prim.Native.Nat.{ℕ, ◌≤◌}
 use native.Mathlib.Omega.{arith}
-use lib.IntN.{ℤ}
 use mir.Facts.{to_z-of_z}
 use mir.Syntax.{w32}
 use mir.Val.{of_z, to_z}
 use Rattle.granules.proofs.Tests.{true≢false}
-use Rattle.least_form.specs.Cells.{RepeatsAt, RepeatsFrom}
-use Rattle.least_form.proofs.other_in.Invariants.{Inv}
+use Rattle.least_form.specs.Cells.{RepeatsAt}
 use Rattle.least_form.proofs.other_in.Goals as goal
 use Rattle.least_form.proofs.other_in.Goals.{After-is_repeated, At-loop-t, Start}
 

@@ -2,19 +2,15 @@
 -- repeated.
 -- Assumes nothing.
 use borrow.Author.Count.{below_more}
-use borrow.Author.Tests.{not-true, not-false}
-use mathlib.Core.Path.{◌≡◌, refl, sym, ◌∙◌}
+use mathlib.Core.Path.{refl, sym, ◌∙◌}
 use mathlib.Core.Logic.{⊎_elim}
-use mathlib.Core.List.{List}
-use Prim.Native.Nat.{ℕ, ◌+◌, ◌-◌, ◌≤◌}
+use Prim.Native.Nat.{ℕ, ◌≤◌}
 use native.Mathlib.Omega.{arith}
-use lib.IntN.{ℤ}
 use mir.Facts.{to_z-of_z}
 use mir.Syntax.{w32}
 use mir.Val.{of_z, to_z}
 use Rattle.granules.proofs.Tests.{true≢false}
-use Rattle.least_form.specs.Cells.{RepeatsAt, RepeatsFrom}
-use Rattle.least_form.proofs.others_in.Invariants.{Inv}
+use Rattle.least_form.specs.Cells.{RepeatsAt}
 use Rattle.least_form.proofs.others_in.Goals as goal
 use Rattle.least_form.proofs.others_in.Goals.{After-is_repeated, At-loop-t, Start}
 
@@ -40,20 +36,20 @@ loop-t-preserved c =
     let k = a.loop-t in
     ⊎_elim
     (λ w.
-    let f = not-true b.is_repeated.result w.0.taken in
+    let f = w.if-not-is_repeated.true in
     record {
       few = omega arith;
       within = omega arith;
-      none = λ n. absurd (omega (arith, n, w.1));
+      none = λ n. absurd (omega (arith, n, w.count-is));
       all = λ h. absurd (true≢false (b.is_repeated.ensures.1 (h k.t (omega arith) (omega arith))) f);
     })
     (λ w.
-    let f = b.is_repeated.ensures.0 (not-false b.is_repeated.result w.0.left) in
+    let f = b.is_repeated.ensures.0 w.if-not-is_repeated.false in
     record {
       few = omega arith;
       within = omega arith;
-      none = λ n. below_more (At s) k.t (k.invariant.none (sym w.1 ∙ n)) (λ l. f);
-      all = λ h. w.1 ∙ k.invariant.all (λ t m. h t (omega arith));
+      none = λ n. below_more (At s) k.t (k.invariant.none (sym w.count-is ∙ n)) (λ l. f);
+      all = λ h. w.count-is ∙ k.invariant.all (λ t m. h t (omega arith));
     })
     c.if-not-is_repeated.branch-raw
 

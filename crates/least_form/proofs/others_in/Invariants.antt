@@ -1,19 +1,11 @@
 -- `least_form::others_in` meets its contract: none is counted exactly if each cell that the loop has passed is
 -- repeated.
 -- Assumes nothing.
-use borrow.Author.Count.{below_more}
-use borrow.Author.Tests.{not-true, not-false}
-use mathlib.Core.Path.{◌≡◌, refl, sym, ◌∙◌}
-use mathlib.Core.Logic.{⊎_elim}
+use mathlib.Core.Path.{◌≡◌}
 use mathlib.Core.List.{List}
 use Prim.Native.Nat.{ℕ, ◌+◌, ◌-◌, ◌≤◌}
-use native.Mathlib.Omega.{arith}
 use lib.IntN.{ℤ}
-use mir.Facts.{to_z-of_z}
-use mir.Syntax.{w32}
-use mir.Val.{of_z, to_z}
-use Rattle.granules.proofs.Tests.{true≢false}
-use Rattle.least_form.specs.Cells.{RepeatsAt, RepeatsFrom}
+use Rattle.least_form.specs.Cells.{RepeatsFrom}
 use Rattle.least_form.proofs.others_in.Given as goal
 
 pub record Inv (cells : List ℤ) (start end q : ℕ) (rise : ℤ) (count t : ℕ) : Type 0 where

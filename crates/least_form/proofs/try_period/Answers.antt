@@ -1,11 +1,9 @@
 -- `least_form::try_period` meets its contract: where all cells are repeated, each is regular, so a witness that is not decides;
 -- else the pass over all does.
 -- Assumes nothing.
-use borrow.Author.Rules.{rules}
-use borrow.Author.Tests.{not-true}
 use mathlib.Core.Path.{◌≡◌, refl}
 use mathlib.Core.Logic.{◌↔◌, ⊎_elim}
-use mathlib.Core.Bool.{Bool, true, not}
+use mathlib.Core.Bool.{Bool, true, false}
 use Prim.Native.Nat.{ℕ, ◌+◌}
 use lib.ListN.{length}
 use mir.Facts.{to_z-of_z}
@@ -20,10 +18,10 @@ use Rattle.least_form.proofs.try_period.Goals.{After-is_regular, Start}
 -- a witness that is not regular decides
 decides : (s : Start) (w : ℕ) (b : Bool) → let a = s.args in
     (b ≡ true) ↔ RegularAt a.cells.now a.q (to_z w32 (of_z w32 a.rise)) w
-    → not b ≡ true → ¬ RepeatsWithin a.cells.now a.q a.rise
+    → b ≡ false → ¬ RepeatsWithin a.cells.now a.q a.rise
 decides s w b test e h =
     let a = s.args in
-    true≢false (test.1 (rw (to_z-of_z s.ranges.rise) (all-regular a.cells.now a.q a.rise w h))) (not-true b e)
+    true≢false (test.1 (rw (to_z-of_z s.ranges.rise) (all-regular a.cells.now a.q a.rise w h))) e
 
 pub returns-then-not-is_regular : goal.returns-then-not-is_regular
 returns-then-not-is_regular c =
@@ -32,8 +30,8 @@ returns-then-not-is_regular c =
       λ e. absurd (true≢false e refl),
       λ h. absurd
           (⊎_elim
-          (λ w. decides s s.args.first a.is_regular.result a.is_regular.ensures w.taken h)
-          (λ w. decides s s.args.second w.1.result w.1.ensures w.2.taken h)
+          (λ w. decides s s.args.first a.is_regular.result a.is_regular.ensures w.if-not-is_regular.true h)
+          (λ w. decides s s.args.second w.is_regular-else-not-is_regular.result w.is_regular-else-not-is_regular.ensures w.if-not-is_regular-2.true h)
           c.then-not-is_regular.branch-raw),
     )
 
