@@ -1,6 +1,5 @@
 -- `dates::days_in` meets its contract: the days to the next month, less those to the month.
 -- Assumes nothing.
-use borrow.Author.Rules.{rules}
 use mathlib.Core.Path.{◌≡◌}
 use Prim.Native.Nat.{◌+◌}
 use native.Mathlib.Numerals.{add-one}

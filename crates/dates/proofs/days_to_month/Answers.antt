@@ -1,6 +1,5 @@
 -- `dates::days_to_month` meets its contract: its division is right at each month.
 -- Assumes nothing.
-use borrow.Author.Rules.{rules}
 use Rattle.dates.proofs.Months.{days-right}
 use Rattle.dates.proofs.days_to_month.Goals as goal
 use Rattle.dates.proofs.days_to_month.Goals.{Start}

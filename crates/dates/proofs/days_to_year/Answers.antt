@@ -1,6 +1,6 @@
 -- `dates::days_to_year` meets its contract: of a year that is near no sum wraps.
 -- Assumes nothing.
-use borrow.Author.Rules.{rules, sfits_of}
+use borrow.Author.Rules.{sfits_of}
 use mathlib.Core.Path.{◌≡◌, ◌∙◌}
 use mir.Facts.{to_z-of_z}
 use mir.Syntax.{w64}

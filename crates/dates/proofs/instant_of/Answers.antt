@@ -1,6 +1,6 @@
 -- `dates::instant_of` meets its contract: 20 first, then 14, of which a year that is not near is one case.
 -- Assumes nothing.
-use borrow.Author.Rules.{rules, sfits_of}
+use borrow.Author.Rules.{sfits_of}
 use borrow.Author.Tests.{not-true, not-false}
 use mathlib.Core.Path.{◌≡◌, sym, ◌∙◌, ap, ap₂}
 use mathlib.Core.Bool.{true}
@@ -94,9 +94,9 @@ instant-is : (c : After-instant_at-t) → to_z w64 (of_z w64 c.instant_at-t.resu
     ≡ instant_of (start (goal.at.After-instant_at-t c).Else-not-is_between).args.year (up (start (goal.at.After-instant_at-t c).Else-not-is_between).args.month) (up (start (goal.at.After-instant_at-t c).Else-not-is_between).args.day)
 instant-is c =
     let s = start (goal.at.After-instant_at-t c).Else-not-is_between in
-    let y = s.fits.year in
-    let m = s.fits.month in
-    let d = s.fits.day in
+    let y = s.ranges.year in
+    let m = s.ranges.month in
+    let d = s.ranges.day in
     to_z-of_z {w = w64} (sfits_of c.instant_at-t.type_inv)
     ∙ (simp plain at c.instant_at-t.ensures)
     ∙ ap₂ (instant_of s.args.year) (natural (month-above (goal.at.After-instant_at-t c).Else-not-is_between)).0 (natural (day-above (goal.at.After-instant_at-t c).Else-not-is_between)).0

@@ -1,6 +1,5 @@
 -- `dates::is_leap` meets its contract: the tests in order are those of the rule.
 -- Assumes nothing.
-use borrow.Author.Rules.{rules}
 use Rattle.integers.proofs.Machine.{plain}
 use Rattle.civil.specs.Rule.{leap}
 use Rattle.dates.proofs.is_leap.Goals as goal

@@ -1,6 +1,6 @@
 -- `dates::leap_years` meets its contract: the three quotients are small, and their sum is the definition's.
 -- Assumes nothing.
-use borrow.Author.Rules.{rules, sfits_of}
+use borrow.Author.Rules.{sfits_of}
 use mathlib.Core.Path.{◌≡◌, ◌∙◌}
 use mir.Facts.{to_z-of_z}
 use mir.Syntax.{w64}

@@ -1,6 +1,5 @@
 -- `dates::month_at` meets its contract: its division is right at each day of a year.
 -- Assumes nothing.
-use borrow.Author.Rules.{rules}
 use native.Mathlib.Omega.{arith}
 use Prim.Native.Nat.{◌+◌, ◌≤◌}
 use Rattle.dates.proofs.Months.{days-right, few-small, month-right}

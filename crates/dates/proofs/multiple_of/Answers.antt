@@ -1,6 +1,5 @@
 -- `dates::multiple_of` meets its contract: the remainder's bits are 0 exactly where it is.
 -- Assumes nothing.
-use borrow.Author.Rules.{rules}
 use mathlib.Core.Path.{ap}
 use lib.Dec.{eqb}
 use lib.IntN.{ℤ}
