@@ -23,16 +23,16 @@ pub labels-eq : {m n y z : ℤ} → m ≡ n → y ≡ z
 labels-eq p q = λ i. record { count = p i; last = q i }
 
 -- from the cell i to the cell k the greatest goes from `last` to `top`, and the count from `count` to `sum`
-pub record Passed (cells : List ℤ) (i k last count top sum : ℕ) : Type 0 where
+pub record Passed (cells : List ℤ) (i k : ℕ) (last : ℤ) (count : ℕ) (top : ℤ) (sum : ℕ) : Type 0 where
   pub few : sum + i ≤ count + k
-  pub fits : SFits w32 (to_z w32 top)
-  pub left : count + rises (to_z w32 last) (drop i cells) ≡ sum + rises (to_z w32 top) (drop k cells)
-  pub end : greatest (to_z w32 last) (drop i cells) ≡ greatest (to_z w32 top) (drop k cells)
+  pub fits : SFits w32 top
+  pub left : count + rises last (drop i cells) ≡ sum + rises top (drop k cells)
+  pub end : greatest last (drop i cells) ≡ greatest top (drop k cells)
 
-pub passed_none : (cells : List ℤ) (i last count : ℕ) → SFits w32 (to_z w32 last) → Passed cells i i last count last count
+pub passed_none : (cells : List ℤ) (i : ℕ) (last : ℤ) (count : ℕ) → SFits w32 last → Passed cells i i last count last count
 passed_none cells i last count f = record { few = omega arith; fits = f; left = omega arith; end = refl }
 
-pub passed_then : (cells : List ℤ) (i k m last count top sum high all : ℕ)
+pub passed_then : (cells : List ℤ) (i k m : ℕ) (last : ℤ) (count : ℕ) (top : ℤ) (sum : ℕ) (high : ℤ) (all : ℕ)
     → Passed cells i k last count top sum → Passed cells k m top sum high all → Passed cells i m last count high all
 passed_then cells i k m last count top sum high all p q = record {
   few = omega arith;
@@ -42,19 +42,19 @@ passed_then cells i k m last count top sum high all p q = record {
 }
 
 -- one cell
-module _ (cells : List ℤ) (i k last count top sum : ℕ) (here : i < length cells) (next : k ≡ i + 1)
+module _ (cells : List ℤ) (i k : ℕ) (last : ℤ) (count : ℕ) (top : ℤ) (sum : ℕ) (here : i < length cells) (next : k ≡ i + 1)
     (cell : SFits w32 (get_or cells i (pos 0))) where
   abbrev z : ℤ
   z = get_or cells i (pos 0)
 
   -- with a new label
-  pub passed-more : lt_z (to_z w32 last) (to_z w32 (of_z w32 z)) ≡ true → top ≡ of_z w32 z → sum ≡ count + 1
+  pub passed-more : lt_z last (to_z w32 (of_z w32 z)) ≡ true → top ≡ to_z w32 (of_z w32 z) → sum ≡ count + 1
       → Passed cells i k last count top sum
   passed-more t e n =
-      let q : to_z w32 top ≡ z = ap (to_z w32) e ∙ to_z-of_z cell in
-      let m = count-more cells i (pos 0) here (to_z w32 last) (rw (to_z-of_z cell) at t) in
+      let q : top ≡ z = e ∙ to_z-of_z cell in
+      let m = count-more cells i (pos 0) here last (rw (to_z-of_z cell) at t) in
       let r = ap (λ (y : ℤ). rises y (drop (i + 1) cells)) q in
-      let d = ap (λ (x : ℕ). rises (to_z w32 top) (drop x cells)) next in
+      let d = ap (λ (x : ℕ). rises top (drop x cells)) next in
       record {
         few = omega arith;
         fits = subst (SFits w32) (sym q) cell;
@@ -62,33 +62,33 @@ module _ (cells : List ℤ) (i k last count top sum : ℕ) (here : i < length ce
         end =
             m.1
             ∙ ap (λ (y : ℤ). greatest y (drop (i + 1) cells)) (sym q)
-            ∙ ap (λ (x : ℕ). greatest (to_z w32 top) (drop x cells)) (sym next);
+            ∙ ap (λ (x : ℕ). greatest top (drop x cells)) (sym next);
       }
 
   -- with the same label, or with none
-  pub passed-same : SFits w32 (to_z w32 last) → lt_z (to_z w32 last) (to_z w32 (of_z w32 z)) ≡ false → top ≡ last → sum ≡ count
+  pub passed-same : SFits w32 last → lt_z last (to_z w32 (of_z w32 z)) ≡ false → top ≡ last → sum ≡ count
       → Passed cells i k last count top sum
   passed-same f t e n =
-      let m = count_same cells i (pos 0) here (to_z w32 last) (rw (to_z-of_z cell) at t) in
-      let r = ap (λ (b : ℕ). rises (to_z w32 b) (drop (i + 1) cells)) e in
-      let d = ap (λ (x : ℕ). rises (to_z w32 top) (drop x cells)) next in
+      let m = count_same cells i (pos 0) here last (rw (to_z-of_z cell) at t) in
+      let r = ap (λ (b : ℤ). rises b (drop (i + 1) cells)) e in
+      let d = ap (λ (x : ℕ). rises top (drop x cells)) next in
       record {
         few = omega arith;
-        fits = subst (λ (b : ℕ). SFits w32 (to_z w32 b)) (sym e) f;
+        fits = subst (SFits w32) (sym e) f;
         left = omega (arith, m.0, r, d);
         end =
             m.1
-            ∙ ap (λ (b : ℕ). greatest (to_z w32 b) (drop (i + 1) cells)) (sym e)
-            ∙ ap (λ (x : ℕ). greatest (to_z w32 top) (drop x cells)) (sym next);
+            ∙ ap (λ (b : ℤ). greatest b (drop (i + 1) cells)) (sym e)
+            ∙ ap (λ (x : ℕ). greatest top (drop x cells)) (sym next);
       }
 
 -- ---- four parts
 
-abbrev pub tops : ℕ → ℕ → ℕ → ℕ → ℕ → Tops
-tops count a b c d = record { count = count; a = to_z w32 a; b = to_z w32 b; c = to_z w32 c; d = to_z w32 d }
+abbrev pub tops : ℕ → ℤ → ℤ → ℤ → ℤ → Tops
+tops count a b c d = record { count = count; a = a; b = b; c = c; d = d }
 
 -- a cell of each, one after the other
-pub abreast-then : (cells : List ℤ) (start i q : ℕ) (from : Tops) (n₀ n₁ n₂ n₃ n₄ a b c d a' b' c' d' : ℕ)
+pub abreast-then : (cells : List ℤ) (start i q : ℕ) (from : Tops) (n₀ n₁ n₂ n₃ n₄ : ℕ) (a b c d a' b' c' d' : ℤ)
     → Abreast cells start i q from (tops n₀ a b c d)
     → Passed cells i (i + 1) a n₀ a' n₁
     → Passed cells (i + q) (i + 1 + q) b n₁ b' n₂

@@ -1,21 +1,12 @@
 -- `counts::abreast` meets its contract: the loop keeps the count of all parts, by the greatest label of each so far.
 -- Assumes nothing.
-use mathlib.Core.Path.{◌≡◌, refl, sym, ◌∙◌, ap, subst}
-use mathlib.Core.Logic.{⊎_elim}
 use mathlib.Core.List.{List}
-use Prim.Native.Nat.{ℕ, ◌+◌, ◌-◌, ◌≤◌, ◌<◌}
-use native.Mathlib.Omega.{arith}
-use borrow.Author.Rules.{sfits_of}
-use lib.IntN.{ℤ, pos}
-use lib.ListN.{length, get_or, drop}
-use mir.Facts.{to_z-of_z}
+use Prim.Native.Nat.{ℕ, ◌+◌, ◌-◌, ◌≤◌}
+use lib.IntN.{ℤ}
 use mir.Syntax.{w32}
-use mir.Val.{SFits, of_z, to_z}
-use Rattle.calendar.specs.Meaning.{empty}
-use Rattle.cursors.proofs.Cells.{get_d_any}
-use Rattle.counts.specs.Labels.{rises, greatest}
+use mir.Val.{SFits}
 use Rattle.counts.specs.Abreast.{Abreast, begun}
-use Rattle.counts.proofs.Steps.{Passed, passed-more, passed-same, tops, abreast-then}
+use Rattle.counts.proofs.Steps.{tops}
 use Rattle.counts.proofs.abreast.Given as goal
 
 -- each part is passed up to its cell i
@@ -28,22 +19,8 @@ pub record Inv (cells : List ℤ) (start q : ℕ) (b : ℤ) (c : ℤ) (d : ℤ) 
   pub fits-d : SFits w32 top-d
   pub passed : Abreast cells start i q (begun cells start b c d) (tops count top-a top-b top-c top-d)
 
--- ---- the cell of each part that a turn passes
-abbrev pub At : Type 0
-At = «P»At-loop-i«/P»
-
-abbrev pub start : At → «P»Start«/P»
-start k = (goal.at.At-loop-i k).Start
-
-abbrev pub q : At → ℕ
-q k = (start k).args.q
-
-abbrev pub turn : «P»In-loop-i«/P» → At
-turn c = (goal.at.In-loop-i c).At-loop-i
-
 abbrev pub invariant-loop-i : goal.invariant-loop-i
 invariant-loop-i l = Inv l.cells l.start l.q l.b l.c l.d l.count l.top_a l.top_b l.top_c l.top_d l.i
 
 abbrev pub decreases-loop-i : goal.decreases-loop-i
 decreases-loop-i l = l.start + l.q - l.i
-

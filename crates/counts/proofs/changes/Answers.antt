@@ -1,15 +1,10 @@
 -- `counts::changes` meets its contract: the loop keeps the count, by the cell before and the cells that are left.
 -- Assumes nothing.
-use mathlib.Core.Path.{◌≡◌}
-use mathlib.Core.List.{List}
-use Prim.Native.Nat.{ℕ, ◌+◌, ◌-◌, ◌≤◌}
+use Prim.Native.Nat.{◌-◌}
 use native.Mathlib.Omega.{arith}
-use lib.IntN.{ℤ}
-use lib.ListN.{length, get_or, drop}
+use lib.ListN.{get_or}
 use Rattle.calendar.specs.Meaning.{empty}
-use Rattle.counts.specs.Labels.{differing, differing_behind}
 use Rattle.counts.proofs.Whole.{differing-end}
-use Rattle.counts.proofs.changes.Invariants.{Inv}
 use Rattle.counts.proofs.changes.Goals as goal
 
 pub loop-i-init : goal.loop-i-init

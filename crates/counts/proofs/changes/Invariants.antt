@@ -3,12 +3,10 @@
 use mathlib.Core.Path.{◌≡◌}
 use mathlib.Core.List.{List}
 use Prim.Native.Nat.{ℕ, ◌+◌, ◌-◌, ◌≤◌}
-use native.Mathlib.Omega.{arith}
 use lib.IntN.{ℤ}
 use lib.ListN.{length, get_or, drop}
 use Rattle.calendar.specs.Meaning.{empty}
 use Rattle.counts.specs.Labels.{differing, differing_behind}
-use Rattle.counts.proofs.Whole.{differing-end}
 use Rattle.counts.proofs.changes.Given as goal
 
 pub record Inv (cells : List ℤ) (count i : ℕ) : Type 0 where
@@ -21,4 +19,3 @@ invariant-loop-i l = Inv l.cells l.count l.i
 
 abbrev pub decreases-loop-i : goal.decreases-loop-i
 decreases-loop-i l = length l.cells - l.i
-

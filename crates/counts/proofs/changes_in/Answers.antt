@@ -2,11 +2,10 @@
 -- Assumes nothing.
 use mathlib.Core.Path.{◌≡◌, sym, ◌∙◌, ap}
 use mathlib.Core.Logic.{⊎_elim}
-use mathlib.Core.List.{List}
-use Prim.Native.Nat.{ℕ, ◌+◌, ◌-◌, ◌≤◌, ◌<◌}
+use Prim.Native.Nat.{ℕ, ◌+◌, ◌-◌, ◌<◌}
 use native.Mathlib.Omega.{arith}
 use borrow.Author.Rules.{sfits_of}
-use lib.IntN.{ℤ, pos}
+use lib.IntN.{pos}
 use lib.ListN.{length, get_or, drop}
 use mir.Syntax.{w32}
 use mir.Val.{of_z}
@@ -15,7 +14,6 @@ use Rattle.calendar.specs.Meaning.{empty}
 use Rattle.cursors.proofs.Cells.{get_d_any}
 use Rattle.counts.specs.Labels.{differing, differing_behind}
 use Rattle.counts.proofs.Whole.{differing-same, differing-more}
-use Rattle.counts.proofs.changes_in.Invariants.{Inv}
 use Rattle.counts.proofs.changes_in.Goals as goal
 use Rattle.counts.proofs.changes_in.Goals.{At-loop-i, Start}
 
@@ -35,12 +33,12 @@ loop-i-preserved c =
     let g = ap (λ (m : ℕ). differing (get_or l m empty) (drop (i + 1) l)) e in
     ⊎_elim
     (λ w.
-    let m = differing-more l i empty here (get_or l (i - 1) empty) (λ h. w.0.taken (ap (of_z w32) (x ∙ h ∙ sym y))) in
-    record { few = omega arith; within = omega arith; left = omega (arith, k.invariant.left, m, g) })
+    let m = differing-more l i empty here (get_or l (i - 1) empty) (λ h. w.if-cells-i.true (ap (of_z w32) (x ∙ h ∙ sym y))) in
+    record { few = omega arith; within = omega arith; left = omega (arith, k.invariant.left, m, g, w.count-is) })
     (λ w.
-    let q = (test-eq w32 _ _ (sfits_of c.t9-1.given) (sfits_of c.t13-1.given)).0 w.0.left in
+    let q = (test-eq w32 _ _ (sfits_of c.t9-1.given) (sfits_of c.t13-1.given)).0 w.if-cells-i.false in
     let m = differing-same l i empty here (get_or l (i - 1) empty) (sym x ∙ q ∙ y) in
-    record { few = omega arith; within = omega arith; left = omega (arith, k.invariant.left, m, g) })
+    record { few = omega arith; within = omega arith; left = omega (arith, k.invariant.left, m, g, w.count-is) })
     c.if-cells-i.branch-raw
 
 pub returns : goal.returns

@@ -1,8 +1,6 @@
 -- `counts::label_before` meets its contract: it stays within the row.
 -- Assumes nothing.
 use Prim.Native.Nat.{◌≤◌}
-use native.Mathlib.Omega.{arith}
-use borrow.Author.Rules.{rules}
 use lib.ListN.{length}
 use Rattle.counts.proofs.label_before.Given as goal
 
@@ -11,4 +9,3 @@ invariant-loop-k l = l.k ≤ length l.cells
 
 abbrev pub decreases-loop-k : goal.decreases-loop-k
 decreases-loop-k l = l.k
-

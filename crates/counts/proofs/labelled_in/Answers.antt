@@ -2,16 +2,14 @@
 -- Assumes nothing.
 use mathlib.Core.Path.{◌≡◌, ◌∙◌, ap}
 use mathlib.Core.Logic.{⊎_elim}
-use mathlib.Core.List.{List}
-use Prim.Native.Nat.{ℕ, ◌+◌, ◌-◌, ◌≤◌, ◌<◌}
+use Prim.Native.Nat.{ℕ, ◌+◌, ◌<◌}
 use native.Mathlib.Omega.{arith}
 use borrow.Author.Rules.{sfits_of}
-use lib.IntN.{ℤ, pos}
+use lib.IntN.{pos}
 use lib.ListN.{length, get_or, drop}
 use Rattle.calendar.specs.Sound.{labels_of}
 use Rattle.cursors.proofs.Cells.{bits-empty, bits_full}
 use Rattle.counts.proofs.Counts.{labelled-more, labelled-same}
-use Rattle.counts.proofs.labelled_in.Invariants.{Inv}
 use Rattle.counts.proofs.labelled_in.Goals as goal
 use Rattle.counts.proofs.labelled_in.Goals.{Start}
 
@@ -26,11 +24,11 @@ loop-i-preserved c =
     let here : k.i < length l = omega arith in
     ⊎_elim
     (λ w.
-    let m = labelled-more l k.i (pos 0) here (bits_full z w.0.taken) in
-    record { few = omega arith; within = omega arith; left = omega (arith, m) })
+    let m = labelled-more l k.i (pos 0) here (bits_full z w.if-cells-i.true) in
+    record { few = omega arith; within = omega arith; left = omega (arith, m, w.count-is) })
     (λ w.
-    let m = labelled-same l k.i (pos 0) here (bits-empty z (sfits_of c.t9-1.given) w.0.left) in
-    record { few = omega arith; within = omega arith; left = omega (arith, m) })
+    let m = labelled-same l k.i (pos 0) here (bits-empty z (sfits_of c.t9-1.given) w.if-cells-i.false) in
+    record { few = omega arith; within = omega arith; left = omega (arith, m, w.count-is) })
     c.if-cells-i.branch-raw
 
 pub returns : goal.returns

@@ -1,16 +1,11 @@
 -- `counts::labelled_in` meets its contract: the loop counts the labels of the cells that it has passed.
 -- Assumes nothing.
-use mathlib.Core.Path.{◌≡◌, ◌∙◌, ap}
-use mathlib.Core.Logic.{⊎_elim}
+use mathlib.Core.Path.{◌≡◌}
 use mathlib.Core.List.{List}
-use Prim.Native.Nat.{ℕ, ◌+◌, ◌-◌, ◌≤◌, ◌<◌}
-use native.Mathlib.Omega.{arith}
-use borrow.Author.Rules.{sfits_of}
-use lib.IntN.{ℤ, pos}
-use lib.ListN.{length, get_or, drop}
+use Prim.Native.Nat.{ℕ, ◌+◌, ◌-◌, ◌≤◌}
+use lib.IntN.{ℤ}
+use lib.ListN.{length, drop}
 use Rattle.calendar.specs.Sound.{labels_of}
-use Rattle.cursors.proofs.Cells.{bits-empty, bits_full}
-use Rattle.counts.proofs.Counts.{labelled-more, labelled-same}
 use Rattle.counts.proofs.labelled_in.Given as goal
 
 pub record Inv (cells : List ℤ) (start end count i : ℕ) : Type 0 where
@@ -23,4 +18,3 @@ invariant-loop-i l = Inv l.cells l.start l.end l.count l.i
 
 abbrev pub decreases-loop-i : goal.decreases-loop-i
 decreases-loop-i l = l.end - l.i
-

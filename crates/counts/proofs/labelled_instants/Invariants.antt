@@ -1,16 +1,11 @@
 -- `counts::labelled_instants` meets its contract: the loop counts the labels of the cells that it has passed.
 -- Assumes nothing.
-use mathlib.Core.Path.{◌≡◌, ◌∙◌, ap}
+use mathlib.Core.Path.{◌≡◌}
 use mathlib.Core.List.{List}
-use Prim.Native.Nat.{ℕ, ◌+◌, ◌-◌, ◌≤◌, ◌<◌, ◌^◌}
-use native.Mathlib.Omega.{arith}
-use lib.IntN.{ℤ, pos}
+use Prim.Native.Nat.{ℕ, ◌+◌, ◌-◌, ◌≤◌}
+use lib.IntN.{ℤ}
 use lib.ListN.{length, drop}
-use mir.Facts.{to_z_pos}
-use mir.Syntax.{w64}
-use Rattle.integers.proofs.Linear.{ints, ◌∴◌}
 use Rattle.calendar.specs.Sound.{labels_of}
-use Rattle.counts.proofs.Counts.{labelled-end}
 use Rattle.counts.proofs.labelled_instants.Given as goal
 
 pub record Inv (cells : List ℤ) (count i : ℕ) : Type 0 where
@@ -18,12 +13,8 @@ pub record Inv (cells : List ℤ) (count i : ℕ) : Type 0 where
   pub within : i ≤ length cells
   pub left : length (labels_of cells) ≡ count + length (labels_of (drop i cells))
 
-pub few : (c : «P»After-loop-i«/P») → c.loop-i.count < 2 ^ 63
-few c = omega arith
-
 abbrev pub invariant-loop-i : goal.invariant-loop-i
 invariant-loop-i l = Inv l.cells l.count l.i
 
 abbrev pub decreases-loop-i : goal.decreases-loop-i
 decreases-loop-i l = length l.cells - l.i
-

@@ -2,14 +2,14 @@
 -- Assumes nothing.
 use mathlib.Core.Path.{refl, sym, ◌∙◌, ap, subst}
 use mathlib.Core.Logic.{⊎_elim}
-use Prim.Native.Nat.{◌+◌, ◌-◌, ◌≤◌, ◌<◌, ◌^◌}
+use Prim.Native.Nat.{◌+◌, ◌<◌, ◌^◌}
 use native.Mathlib.Omega.{arith}
 use borrow.Author.Rules.{sfits_of}
 use lib.IntN.{ℤ, pos}
 use lib.ListN.{length, drop}
 use mir.Facts.{to_z-of_z, to_z_pos}
 use mir.Syntax.{w32, w64}
-use mir.Val.{SFits, of_z, to_z}
+use mir.Val.{SFits, to_z}
 use Rattle.integers.proofs.Linear.{ints, ◌∴◌}
 use Rattle.integers.proofs.Machine.{widened}
 use Rattle.counts.specs.Labels.{rises, greatest, counted_on}
@@ -30,10 +30,10 @@ loop-k-preserved c =
     let l = a.args.cells.now in
     let here : k.k < length l = omega arith in
     let f = sfits_of a.z-1.given in
-    let p : Passed l k.k (k.k + 1) k.top-bits k.sum c.if-z-top.top-bits c.if-z-top.sum =
+    let p : Passed l k.k (k.k + 1) (to_z w32 k.top-bits) k.sum (to_z w32 c.if-z-top.top-bits) c.if-z-top.sum =
     ⊎_elim
-    (λ w. passed-more l k.k (k.k + 1) k.top-bits k.sum _ _ here refl f w.0.taken w.1 w.2)
-    (λ w. passed-same l k.k (k.k + 1) k.top-bits k.sum _ _ here refl f k.invariant.1.fits w.0.left w.1 w.2)
+    (λ w. passed-more l k.k (k.k + 1) (to_z w32 k.top-bits) k.sum _ _ here refl f w.if-z-top.true w.top-is w.sum-is)
+    (λ w. passed-same l k.k (k.k + 1) (to_z w32 k.top-bits) k.sum _ _ here refl f k.invariant.1.fits w.if-z-top.false w.top-is w.sum-is)
     c.if-z-top.branch-raw in
     (omega arith, passed_then l _ k.k (k.k + 1) _ _ _ _ _ _ k.invariant.1 p)
 
