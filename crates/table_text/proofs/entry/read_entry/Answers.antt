@@ -1,15 +1,16 @@
 -- `table_text::entry::read_entry` meets its contract. The loop's invariant: what is left of the line is to be read behind the first k numbers.
 -- Assumes nothing.
-use borrow.Author.Rules.{rules}
 use mathlib.Core.Path.{◌≡◌, refl, sym, ap, ◌∙◌}
 use mathlib.Core.Option.{some}
 use mathlib.Core.List.{List}
-use Prim.Native.Nat.{ℕ, ◌+◌, ◌-◌, ◌≤◌, ◌<◌}
+use Prim.Native.Nat.{ℕ, ◌+◌, ◌-◌, ◌<◌}
 use native.Mathlib.Omega.{arith}
 use lib.IntN.{ℤ}
 use lib.ListN.{length, take, drop, length-take, length-set}
 use Rattle.table_text.proofs.Cutting.{rest, rest-start, rest-number, rest-last, rest-bad-number, rest-too-many, answer-value, answer-bad, one-stored, last_stored, number-stored}
-use Rattle.table_text.specs.Parse.{number, entry_of}
+use Rattle.table_text.specs.declared.number.Number.{Number}
+use Rattle.table_text.specs.declared.number.Number.TheVariants.{Value, Bad}
+use Rattle.table_text.specs.Parse.{number}
 use Rattle.table_text.proofs.entry.read_entry.Goals as goal
 use Rattle.table_text.proofs.entry.read_entry.Goals.{After-end_of-end, At-loop-k, In-Value}
 
@@ -32,21 +33,26 @@ end_of-end-requires c = c.loop-k.invariant.1
 pub slice_bounds-read_number-count : goal.slice_bounds-read_number-count
 slice_bounds-read_number-count c = c.end_of-end.ensures.after
 
+-- what has no value is bad
+no-value : (n : Number) → ((x : ℤ) → ¬ (n ≡ Value x)) → n ≡ Bad
+no-value (Value x) h = absurd (h x refl)
+no-value Bad h = refl
+
 pub returns-in_default : goal.returns-in_default
 returns-in_default c =
     let e = (goal.at.returns-in_default c).After-end_of-end in
     let l = (goal.at.After-end_of-end e).At-loop-k in
-    sym (l.loop-k.invariant.3 ∙ rest-bad-number (done e) (text e) l.loop-k.from e.end_of-end.result e.end_of-end.ensures (answer-bad _ (sym c.read_number-n.ensures ∙ c.enum_told-1.given.1)))
+    sym (l.loop-k.invariant.3 ∙ rest-bad-number (done e) (text e) l.loop-k.from e.end_of-end.result e.end_of-end.ensures (answer-bad _ (sym c.read_number-n.ensures ∙ no-value _ c.in_default.not-Value)))
 
 -- the number that was read
 abbrev at : In-Value → After-end_of-end
 at k = (goal.at.In-Value k).After-end_of-end
 
 abbrev value : In-Value → ℤ
-value k = k.n-1.given.0.0
+value k = k.in-Value.v
 
 reads-value : (k : In-Value) → number (word (at k)) ≡ some (value k)
-reads-value k = answer-value _ (value k) (sym k.read_number-n.ensures ∙ k.n-1.given.1)
+reads-value k = answer-value _ (value k) (sym k.read_number-n.ensures ∙ k.in-Value.is)
 
 pub returns-then-end-line : goal.returns-then-end-line
 returns-then-end-line c =
@@ -54,8 +60,8 @@ returns-then-end-line c =
     let e = at k in
     let l = (goal.at.After-end_of-end e).At-loop-k in
     rw (number-stored (word e) (value k) (reads-value k))
-    (last_stored l.loop-k.numbers l.loop-k.k (value k) l.loop-k.inv.2 (omega arith)
-    ∙ sym (l.loop-k.inv.3 ∙ rest-last (done e) (text e) l.loop-k.from e.end_of-end.result e.end_of-end.ensures (value k) (reads-value k) c.if-end-line.true))
+    (last_stored l.loop-k.numbers l.loop-k.k (value k) l.loop-k.invariant.2 (omega arith)
+    ∙ sym (l.loop-k.invariant.3 ∙ rest-last (done e) (text e) l.loop-k.from e.end_of-end.result e.end_of-end.ensures (value k) (reads-value k) c.if-end-line.true))
 
 pub overflow_add-from : goal.overflow_add-from
 overflow_add-from c =
@@ -72,10 +78,10 @@ loop-k-preserved c =
     rw (number-stored (word e) (value k) (reads-value k)) (
       omega arith,
       omega arith,
-      length-set l.loop-k.numbers l.loop-k.k (value k) ∙ l.loop-k.inv.2,
-      l.loop-k.inv.3
+      length-set l.loop-k.numbers l.loop-k.k (value k) ∙ l.loop-k.invariant.2,
+      l.loop-k.invariant.3
           ∙ rest-number (done e) (text e) l.loop-k.from e.end_of-end.result e.end_of-end.ensures (value k) (reads-value k) h
-          ∙ ap (λ (a : List ℤ). rest a (drop (e.end_of-end.result + 1) (text e))) (sym (one-stored l.loop-k.numbers l.loop-k.k (value k) l.loop-k.inv.2 (omega arith))),
+          ∙ ap (λ (a : List ℤ). rest a (drop (e.end_of-end.result + 1) (text e))) (sym (one-stored l.loop-k.numbers l.loop-k.k (value k) l.loop-k.invariant.2 (omega arith))),
     )
 
 pub returns : goal.returns

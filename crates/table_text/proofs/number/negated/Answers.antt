@@ -3,7 +3,6 @@
 use mathlib.Core.Path.{sym, ap, ◌∙◌}
 use Rattle.table_text.specs.declared.number.Number.TheVariants.{Value}
 use Rattle.table_text.proofs.Scanning.{negative-large, negative-value, fits64, fits32, value32}
-use borrow.Author.Rules.{rules}
 use Rattle.table_text.proofs.number.negated.Goals as goal
 
 pub returns-then-n-gt-BOUND : goal.returns-then-n-gt-BOUND

@@ -1,9 +1,9 @@
 -- `table_text::number::read_digits` meets its contract. The loop's invariant: what is left is to be read behind the digits that make `value`.
 -- Assumes nothing.
 use mathlib.Core.Path.{◌≡◌, refl, sym, ap, ◌∙◌}
-use Prim.Native.Nat.{ℕ, ◌+◌, ◌-◌, ◌*◌, ◌≤◌}
+use Prim.Native.Nat.{ℕ, ◌+◌, ◌*◌}
 use native.Mathlib.Omega.{arith}
-use lib.ListN.{length, drop, drop_of_length-le}
+use lib.ListN.{drop, drop_of_length-le}
 use Rattle.table_text.specs.Answers.{digits_answer}
 use Rattle.table_text.proofs.Scanning.{digits-end, digits-large, place-low, place-high, place-digit}
 use Rattle.table_text.proofs.number.read_digits.Goals as goal

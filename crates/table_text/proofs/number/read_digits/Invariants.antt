@@ -1,11 +1,9 @@
 -- `table_text::number::read_digits` meets its contract. The loop's invariant: what is left is to be read behind the digits that make `value`.
 -- Assumes nothing.
-use mathlib.Core.Path.{◌≡◌, refl, sym, ap, ◌∙◌}
-use Prim.Native.Nat.{ℕ, ◌+◌, ◌-◌, ◌*◌, ◌≤◌}
-use native.Mathlib.Omega.{arith}
-use lib.ListN.{length, drop, drop_of_length-le}
+use mathlib.Core.Path.{◌≡◌}
+use Prim.Native.Nat.{◌-◌, ◌≤◌}
+use lib.ListN.{length, drop}
 use Rattle.table_text.specs.Answers.{digits_answer}
-use Rattle.table_text.proofs.Scanning.{digits-end, digits-large, place-low, place-high, place-digit}
 use Rattle.table_text.proofs.number.read_digits.Given as goal
 
 abbrev pub invariant-loop-i : goal.invariant-loop-i
@@ -13,4 +11,3 @@ invariant-loop-i l = (l.i ≤ length l.word) × (l.value ≤ 2147483648) × (dig
 
 abbrev pub decreases-loop-i : goal.decreases-loop-i
 decreases-loop-i l = length l.word - l.i
-

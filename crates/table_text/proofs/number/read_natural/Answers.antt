@@ -1,6 +1,5 @@
 -- `table_text::number::read_natural` meets its contract, case by case.
 -- Assumes nothing.
-use borrow.Author.Rules.{rules}
 use mathlib.Core.Path.{sym, ◌∙◌}
 use Rattle.table_text.proofs.Scanning.{natural-none, natural-one, natural-zero, natural-several}
 use Rattle.table_text.proofs.number.read_natural.Goals as goal

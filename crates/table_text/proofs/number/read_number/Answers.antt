@@ -6,7 +6,6 @@ use Prim.Native.Nat.{ℕ}
 use lib.ListN.{drop}
 use Rattle.table_text.specs.Answers.{natural_answer, number_answer}
 use Rattle.table_text.proofs.Scanning.{number-none, number-signed, number-unsigned, signed-value, signed-bad, unsigned-value, unsigned-bad, tail-part}
-use borrow.Author.Rules.{rules}
 use Rattle.table_text.specs.Parse.{natural, number, non_negative, negative}
 use Rattle.table_text.proofs.number.read_number.Goals as goal
 use Rattle.table_text.proofs.number.read_number.Goals.{After-read_natural-n, After-read_natural-n-else-word-eq45}
@@ -33,19 +32,19 @@ plus r = ap number_answer (number-unsigned (word2 r) r.if-word-eq0.false r.if-wo
 pub returns-in-Value : goal.returns-in-Value
 returns-in-Value c =
     let r = (goal.at.returns-in-Value c).After-read_natural-n in
-    c.negated.ensures ∙ sym (minus r ∙ signed-value (natural (drop 1 (word r))) _ (sym (read-part r) ∙ c.n-1.given.1))
+    c.negated.ensures ∙ sym (minus r ∙ signed-value (natural (drop 1 (word r))) _ (sym (read-part r) ∙ c.in-Value.is))
 
 pub returns-in-Bad : goal.returns-in-Bad
 returns-in-Bad c =
     let r = (goal.at.returns-in-Bad c).After-read_natural-n in
-    sym (minus r ∙ signed-bad (natural (drop 1 (word r))) (sym (read-part r) ∙ c.enum_told-1.given.1))
+    sym (minus r ∙ signed-bad (natural (drop 1 (word r))) (sym (read-part r) ∙ c.in-Bad.is))
 
 pub returns-in-Value-n : goal.returns-in-Value-n
 returns-in-Value-n c =
     let r = (goal.at.returns-in-Value-n c).After-read_natural-n-else-word-eq45 in
-    c.unsigned.ensures ∙ sym (plus r ∙ unsigned-value (natural (word2 r)) _ (sym r.read_natural-n-else-word-eq45.ensures ∙ c.n-in-Value-n-2-1.given.1))
+    c.unsigned.ensures ∙ sym (plus r ∙ unsigned-value (natural (word2 r)) _ (sym r.read_natural-n-else-word-eq45.ensures ∙ c.in-Value-n.is))
 
 pub returns-in-Bad-n : goal.returns-in-Bad-n
 returns-in-Bad-n c =
     let r = (goal.at.returns-in-Bad-n c).After-read_natural-n-else-word-eq45 in
-    sym (plus r ∙ unsigned-bad (natural (word2 r)) (sym r.read_natural-n-else-word-eq45.ensures ∙ c.enum_told-in-Bad-n-1.given.1))
+    sym (plus r ∙ unsigned-bad (natural (word2 r)) (sym r.read_natural-n-else-word-eq45.ensures ∙ c.in-Bad-n.is))

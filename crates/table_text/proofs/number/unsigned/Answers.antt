@@ -1,6 +1,5 @@
 -- `table_text::number::unsigned` meets its contract.
 -- Assumes nothing.
-use borrow.Author.Rules.{rules}
 use borrow.Author.Tests.{lt-ltb, le-ltb}
 use Rattle.table_text.proofs.number.unsigned.Goals as goal
 

@@ -1,6 +1,5 @@
 -- `table_text::table::read_table` meets its contract.
 -- Assumes nothing.
-use borrow.Author.Rules.{rules}
 use mathlib.Core.Path.{◌≡◌, sym, ap, subst, ◌∙◌}
 use Prim.Native.Nat.{ℕ}
 use native.Mathlib.Omega.{arith}
@@ -18,7 +17,7 @@ abbrev start : After-clear → Start
 start k = (goal.at.After-clear k).Start
 
 clear-length : (k : After-clear) → length k.clear.new.table ≡ length (start k).args.table.now
-clear-length k = k.clear.auto.0
+clear-length k = k.clear.auto.table
 
 pub returns-then-text-gt-TEXT_LIMIT : goal.returns-then-text-gt-TEXT_LIMIT
 returns-then-text-gt-TEXT_LIMIT c = let k = (goal.at.returns-then-text-gt-TEXT_LIMIT c).After-clear in read-long (length (start k).args.table.now) _ _ c.if-text-gt-TEXT_LIMIT.true k.clear.ensures
