@@ -1,10 +1,11 @@
 -- `containment::holder` meets its contract: only h's granule at t can hold g's granule of t.
 -- Assumes nothing.
-use borrow.Author.Rules.{rules, sfits_of}
+use borrow.Author.Rules.{rules}
 use mathlib.Core.Path.{◌≡◌, sym, ◌∙◌, ap}
 use mathlib.Core.Option.{some}
 use native.Mathlib.Omega.{arith}
 use lib.IntN.{ℤ}
+use mir.Syntax.{w64}
 use mir.Facts.{to_z-of_z}
 use Rattle.integers.proofs.Linear.{ints, ◌∴◌}
 use Rattle.integers.proofs.Machine.{plain}
@@ -33,13 +34,6 @@ h-rules s = valid s.args.h_period s.args.h_distance s.args.h_cells.now s.require
 near : (s : Start) → Near s.args.t
 near s = let l = s.requires.labelled in l.1.0 ∴ l.1.1 ∴ simp ints (omega arith)
 
-pub label_at-label-requires : goal.label_at-label-requires
-label_at-label-requires s =
-    let p = s.ranges.h_period in
-    let n = s.ranges.h_distance in
-    let t = s.ranges.t in
-    record { sound = (simp plain (s.requires.sound_2, near s)).0; near = (simp plain (s.requires.sound_2, near s)).1 }
-
 -- the label of t in h
 label_is : (c : After-label_at-label) → meant (h-row (goal.at.After-label_at-label c).Start) c.args.t ≡ found c.label_at-label.result
 label_is c =
@@ -53,23 +47,12 @@ pub returns-in_default : goal.returns-in_default
 returns-in_default c z e =
     let d = (goal.at.returns-in_default c).After-label_at-label in
     let s = (goal.at.After-label_at-label d).Start in
-    sym (holder-no-label (g-row s) (h-row s) (g-rules s) (h-rules s) s.args.t z e (label_is d ∙ ap found c.enum_told-1.given.1))
+    sym (holder-no-label (g-row s) (h-row s) (g-rules s) (h-rules s) s.args.t z e (label_is d ∙ ap found c.in_default.is))
 
-label-some : (c : In-At) → let s = (goal.at.In-At c).Start in meant (h-row s) s.args.t ≡ some c.label-1.given.0.0
-label-some c = label_is (goal.at.In-At c).After-label_at-label ∙ ap found c.label-1.given.1
+label-some : (c : In-At) → let s = (goal.at.In-At c).Start in meant (h-row s) s.args.t ≡ some c.in-At.i
+label-some c = label_is (goal.at.In-At c).After-label_at-label ∙ ap found c.in-At.is
 
-pub inside-requires : goal.inside-requires
-inside-requires c =
-    let s = (goal.at.inside-requires c).Start in
-    let p = s.ranges.g_period in
-    let n = s.ranges.g_distance in
-    let q = s.ranges.h_period in
-    let m = s.ranges.h_distance in
-    let t = s.ranges.t in
-    let l = s.requires.labelled in
-    record { sound = (simp plain (s.requires.sound, (s.requires.sound_2, (l, ((_, label-some c), l.1))))).0; sound_2 = (simp plain (s.requires.sound, (s.requires.sound_2, (l, ((_, label-some c), l.1))))).1; labelled = (simp plain (s.requires.sound, (s.requires.sound_2, (l, ((_, label-some c), l.1))))).2; labelled_2 = (simp plain (s.requires.sound, (s.requires.sound_2, (l, ((_, label-some c), l.1))))).3 }
-
-inside_is : (c : After-inside) (z : ℤ) → let s = (goal.at.After-inside c).Start in meant (g-row s) s.args.t ≡ some z → c.inside.result ≡ inside (g-row s) z (h-row s) c.label-1.given.0.0
+inside_is : (c : After-inside) (z : ℤ) → let s = (goal.at.After-inside c).Start in meant (g-row s) s.args.t ≡ some z → c.inside.result ≡ inside (g-row s) z (h-row s) c.in-At.i
 inside_is c z e =
     let s = (goal.at.After-inside c).Start in
     let p = s.ranges.g_period in
@@ -83,7 +66,7 @@ pub returns-then-inside : goal.returns-then-inside
 returns-then-inside c z e =
     let k = (goal.at.returns-then-inside c).In-At in
     let s = (goal.at.In-At k).Start in
-    ap some (to_z-of_z (sfits_of k.known_told-1.given.0.1))
+    ap some (to_z-of_z {w = w64} (search rules))
     ∙ sym (holder-inside (g-row s) (h-row s) (g-rules s) (h-rules s) s.args.t z e _ (label-some k) (sym (inside_is (goal.at.returns-then-inside c).After-inside z e) ∙ c.if-inside.true))
 
 pub returns-else-inside : goal.returns-else-inside

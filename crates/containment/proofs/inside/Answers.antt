@@ -32,21 +32,6 @@ a-row s = given s.args.a_period s.args.a_distance s.args.a_cells.now
 near : (s : Start) → Near s.args.t
 near s = let l = s.requires.labelled in l.1.0 ∴ l.1.1 ∴ simp ints (omega arith)
 
-pub cursor_at-b-requires : goal.cursor_at-b-requires
-cursor_at-b-requires s =
-    let p = s.ranges.b_period in
-    let n = s.ranges.b_distance in
-    let t = s.ranges.t in
-    record { sound = (simp plain (s.requires.sound, near s)).0; near = (simp plain (s.requires.sound, near s)).1 }
-
-pub cursor_at-a-requires : goal.cursor_at-a-requires
-cursor_at-a-requires c =
-    let s = (goal.at.cursor_at-a-requires c).Start in
-    let p = s.ranges.a_period in
-    let n = s.ranges.a_distance in
-    let t = s.ranges.t in
-    record { sound = (simp plain (s.requires.sound_2, near s)).0; near = (simp plain (s.requires.sound_2, near s)).1 }
-
 -- the cursors of t
 b-cursor : (c : After-cursor_at-a) → let s = (goal.at.After-cursor_at-a c).Start in c.cursor_at-b.result ≡ cursor_at (b-row s) s.args.t
 b-cursor c =
@@ -69,7 +54,7 @@ label_of-k-requires c =
     let s = (goal.at.label_of-k-requires c).Start in
     let p = s.ranges.b_period in
     let n = s.ranges.b_distance in
-    record { sound = (simp plain (s.requires.sound, (s.args.t, near s, b-cursor c, s.requires.labelled.0))).0; shown = (simp plain (s.requires.sound, (s.args.t, near s, b-cursor c, s.requires.labelled.0))).1 }
+    record { sound = simp plain s.requires.sound; shown = simp plain (s.args.t, near s, b-cursor c, s.requires.labelled.0) }
 
 pub label_of-i-requires : goal.label_of-i-requires
 label_of-i-requires c =
@@ -77,7 +62,7 @@ label_of-i-requires c =
     let s = (goal.at.After-cursor_at-a d).Start in
     let p = s.ranges.a_period in
     let n = s.ranges.a_distance in
-    record { sound = (simp plain (s.requires.sound_2, (s.args.t, near s, a-cursor d, s.requires.labelled_2.0))).0; shown = (simp plain (s.requires.sound_2, (s.args.t, near s, a-cursor d, s.requires.labelled_2.0))).1 }
+    record { sound = simp plain s.requires.sound_2; shown = simp plain (s.args.t, near s, a-cursor d, s.requires.labelled_2.0) }
 
 -- the place of t
 abbrev begun : After-label_of-i → Start
@@ -125,7 +110,7 @@ inside_at-requires c =
     let m = s.ranges.a_distance in
     let k = k-fits c in
     let i = i-fits c in
-    record { sound = (simp plain (s.requires.sound, (s.requires.sound_2, placed c))).0; sound_2 = (simp plain (s.requires.sound, (s.requires.sound_2, placed c))).1; overlaps = (simp plain (s.requires.sound, (s.requires.sound_2, placed c))).2 }
+    record { sound = simp plain s.requires.sound; sound_2 = simp plain s.requires.sound_2; overlaps = simp plain (placed c) }
 
 inside_is : (c : After-inside_at) → let s = begun (goal.at.After-inside_at c).After-label_of-i in c.inside_at.result ≡ inside (b-row s) (place (goal.at.After-inside_at c).After-label_of-i).k (a-row s) (place (goal.at.After-inside_at c).After-label_of-i).i
 inside_is c =

@@ -18,17 +18,6 @@ b-row s = given s.args.b_period s.args.b_distance s.args.b_cells.now
 abbrev a-row : Start → Row
 a-row s = given s.args.a_period s.args.a_distance s.args.a_cells.now
 
-pub inside_toward-requires : goal.inside_toward-requires
-inside_toward-requires s =
-    let p = s.ranges.b_period in
-    let n = s.ranges.b_distance in
-    let q = s.ranges.a_period in
-    let m = s.ranges.a_distance in
-    record { sound = (simp plain s.requires).0; sound_2 = (simp plain s.requires).1; overlaps = (simp plain s.requires).2 }
-
-pub inside_toward-requires-then-inside_toward : goal.inside_toward-requires-then-inside_toward
-inside_toward-requires-then-inside_toward c κs = record { sound = (inside_toward-requires (goal.at.inside_toward-requires-then-inside_toward c).Start κs).0; sound_2 = (inside_toward-requires (goal.at.inside_toward-requires-then-inside_toward c).Start κs).1; overlaps = (inside_toward-requires (goal.at.inside_toward-requires-then-inside_toward c).Start κs).2 }
-
 -- what is found on the two sides, and what they are together
 forward : (c : After-inside_toward) → let s = (goal.at.After-inside_toward c).Start in c.inside_toward.result ≡ inside_toward false (b-row s) (a-row s) s.args.from
 forward c =

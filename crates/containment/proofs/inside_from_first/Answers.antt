@@ -17,14 +17,6 @@ b-row s = given s.args.b_period s.args.b_distance s.args.b_cells.now
 abbrev a-row : Start → Row
 a-row s = given s.args.a_period s.args.a_distance s.args.a_cells.now
 
-pub inside_toward-requires : goal.inside_toward-requires
-inside_toward-requires s =
-    let p = s.ranges.b_period in
-    let n = s.ranges.b_distance in
-    let q = s.ranges.a_period in
-    let m = s.ranges.a_distance in
-    record { sound = (simp plain (s.requires.sound, (s.requires.sound_2, s.requires.overlaps))).0; sound_2 = (simp plain (s.requires.sound, (s.requires.sound_2, s.requires.overlaps))).1; overlaps = (simp plain (s.requires.sound, (s.requires.sound_2, s.requires.overlaps))).2 }
-
 forward : (c : After-inside_toward) → let s = (goal.at.After-inside_toward c).Start in c.inside_toward.result ≡ inside_toward false (b-row s) (a-row s) s.args.from
 forward c =
     let s = (goal.at.After-inside_toward c).Start in
@@ -38,4 +30,4 @@ pub returns : goal.returns
 returns c =
     let s = (goal.at.returns c).Start in
     let v = valid s.args.b_period s.args.b_distance s.args.b_cells.now s.requires.sound in
-    forward c ∙ from_first (b-row s) (a-row s) v s.args.from s.requires.from_value
+    record { whole = forward (goal.at.returns c).After-inside_toward ∙ from_first (b-row s) (a-row s) v s.args.from s.requires.from_value }

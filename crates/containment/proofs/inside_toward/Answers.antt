@@ -1,10 +1,8 @@
 -- `containment::inside_toward` meets its contract: it is a walk back or on.
 -- Assumes nothing.
-use borrow.Author.Rules.{rules}
 use mathlib.Core.Path.{◌≡◌, refl, sym, ◌∙◌}
 use mir.Syntax.{w64}
 use mir.Val.{to_z, of_z}
-use Rattle.integers.specs.Parts.{up}
 use Rattle.integers.proofs.Machine.{plain}
 use Rattle.calendar.specs.Meaning.{Row}
 use Rattle.calendar.specs.Questions.{given}
@@ -13,12 +11,11 @@ use Rattle.cursors.specs.Found.{Sound, Near}
 use Rattle.cursors.specs.Direction.{stepped}
 use Rattle.cursors.proofs.Numbers.{numbers, valid}
 use Rattle.cursors.proofs.Direction.{away-near}
-use Rattle.granule_ends.proofs.Walks.{left}
 use Rattle.containment.specs.declared.CursorPair.{CursorPair}
 use Rattle.containment.specs.Places.{at, step_at}
 use Rattle.containment.specs.Sides.{Overlaps}
 use Rattle.containment.proofs.Places.{Moved, moved-beside}
-use Rattle.containment.proofs.Walks.{Toward, toward-start, toward-on, toward-done, toward-out, toward-less}
+use Rattle.containment.proofs.Walks.{toward-start, toward-on, toward-done, toward-out, toward-less}
 use Rattle.containment.proofs.inside_toward.Goals as goal
 use Rattle.containment.proofs.inside_toward.Goals.{After-cursor_step-arg-1, After-cursor_step-next, After-cursor_step-next-in-loop, After-step_at-step, At-loop, Start as Start-place}
 
@@ -66,64 +63,59 @@ near c =
     away-near s.args.back _ _ _ ((overlaps s).low, (overlaps s).high) n.high c.loop.invariant.walk.low c.loop.invariant.walk.high
 
 pub cursor_step-next-requires : goal.cursor_step-next-requires
-cursor_step-next-requires c = record { sound = b-sound (goal.at.cursor_step-next-requires c).At-loop; standing = (at (b-row (goal.at.cursor_step-next-requires c).At-loop) c.loop.next, (near c).0, c.loop.invariant.walk.cursor) }
+cursor_step-next-requires c = let s = (goal.at.cursor_step-next-requires c).Start in record { sound = b-sound s; standing = (at (b-row s) c.loop.next, (near (goal.at.cursor_step-next-requires c).At-loop).0, c.loop.invariant.walk.cursor) }
 
 pub cursor_step-next-requires-in-loop : goal.cursor_step-next-requires-in-loop
-cursor_step-next-requires-in-loop c = let l = (goal.at.cursor_step-next-requires-in-loop c).After-cursor_step-next in record { sound = a-sound (goal.at.After-cursor_step-next l).After-cursor_step-arg-1; standing = (at (b-row (goal.at.After-cursor_step-next l).After-cursor_step-arg-1) l.loop.next, (near l).0, l.loop.invariant.beside) }
+cursor_step-next-requires-in-loop c = let s = (goal.at.cursor_step-next-requires-in-loop c).Start in record { sound = a-sound s; standing = (at (b-row s) c.loop.next, (near (goal.at.cursor_step-next-requires-in-loop c).At-loop).0, c.loop.invariant.beside) }
 
 -- where it goes
 abbrev there : After-cursor_step-next-in-loop → CursorPair
 there c = let p = c.loop.next in record { b = c.cursor_step-next.result; k = p.k; a = c.cursor_step-next-in-loop.result; i = p.i }
 
-moved : (c : After-cursor_step-next-in-loop) → let l = (goal.at.After-cursor_step-next-in-loop c).After-cursor_step-next in Moved (b-row (goal.at.After-cursor_step-next l).After-cursor_step-arg-1) (a-row (goal.at.After-cursor_step-next l).After-cursor_step-arg-1) l.loop.next (there c) (stepped l.args.back (at (b-row (goal.at.After-cursor_step-next l).After-cursor_step-arg-1) l.loop.next))
+moved : (c : After-cursor_step-next-in-loop) → let s = (goal.at.After-cursor_step-next-in-loop c).Start in Moved (b-row s) (a-row s) c.loop.next (there c) (stepped c.args.back (at (b-row s) c.loop.next))
 moved c =
-    let l = (goal.at.After-cursor_step-next-in-loop c).After-cursor_step-next in
-    let u = at (b-row (goal.at.After-cursor_step-next l).After-cursor_step-arg-1) l.loop.next in
-    record { b-cursor = c.cursor_step-next.ensures u l.loop.invariant.walk.cursor; a-cursor = c.cursor_step-next-in-loop.ensures u l.loop.invariant.beside; k-kept = refl; i-kept = refl }
+    let u = at (b-row (goal.at.After-cursor_step-next-in-loop c).Start) c.loop.next in
+    record { b-cursor = c.cursor_step-next.ensures u c.loop.invariant.walk.cursor; a-cursor = c.cursor_step-next-in-loop.ensures u c.loop.invariant.beside; k-kept = refl; i-kept = refl }
 
 pub step_at-step-requires : goal.step_at-step-requires
 step_at-step-requires c =
-    let l = (goal.at.step_at-step-requires c).After-cursor_step-next in
-    let s = (goal.at.After-cursor_step-next l).After-cursor_step-arg-1 in
-    record { sound = ((b-sound s, (a-sound s, moved-beside (b-row s) (a-row s) (rules_own s) l.loop.next (there c) _ (moved c) (near l).1))).0; sound_2 = ((b-sound s, (a-sound s, moved-beside (b-row s) (a-row s) (rules_own s) l.loop.next (there c) _ (moved c) (near l).1))).1; beside = ((b-sound s, (a-sound s, moved-beside (b-row s) (a-row s) (rules_own s) l.loop.next (there c) _ (moved c) (near l).1))).2 }
+    let d = (goal.at.step_at-step-requires c).After-cursor_step-next-in-loop in
+    let s = (goal.at.step_at-step-requires c).Start in
+    record { sound = b-sound s; sound_2 = a-sound s; beside = moved-beside (b-row s) (a-row s) (rules_own s) c.loop.next (there d) _ (moved d) (near (goal.at.step_at-step-requires c).At-loop).1 }
 
-said : (c : After-step_at-step) → let s = (goal.at.After-step_at-step c).After-cursor_step-arg-1 in step_at (b-row s) (a-row s) (there (goal.at.After-step_at-step c).After-cursor_step-next-in-loop) ≡ c.step_at-step.result
+said : (c : After-step_at-step) → let s = (goal.at.After-step_at-step c).Start in step_at (b-row s) (a-row s) (there (goal.at.After-step_at-step c).After-cursor_step-next-in-loop) ≡ c.step_at-step.result
 said c = sym c.step_at-step.ensures
 
 pub loop-smaller : goal.loop-smaller
 loop-smaller c =
     let d = (goal.at.loop-smaller c).After-cursor_step-next-in-loop in
-    let l = (goal.at.After-cursor_step-next-in-loop d).After-cursor_step-next in
-    let s = (goal.at.After-cursor_step-next l).After-cursor_step-arg-1 in
-    toward-less s.args.back (b-row s) (a-row s) (rules_own s) s.args.from l.loop.next (there d) l.loop.invariant (moved d)
+    let s = (goal.at.After-cursor_step-next-in-loop d).Start in
+    toward-less s.args.back (b-row s) (a-row s) (rules_own s) s.args.from c.loop.next (there d) c.loop.invariant (moved d)
 
 pub loop-preserved : goal.loop-preserved
 loop-preserved c =
     let d = (goal.at.loop-preserved c).After-cursor_step-next-in-loop in
-    let l = (goal.at.After-cursor_step-next-in-loop d).After-cursor_step-next in
-    let s = (goal.at.After-cursor_step-next l).After-cursor_step-arg-1 in
-    toward-on s.args.back (b-row s) (a-row s) (rules_own s) s.args.from l.loop.next (there d) l.loop.invariant (moved d) (said (goal.at.loop-preserved c).After-step_at-step ∙ c.enum_told-1.given.1)
+    let s = (goal.at.After-cursor_step-next-in-loop d).Start in
+    toward-on s.args.back (b-row s) (a-row s) (rules_own s) s.args.from c.loop.next (there d) c.loop.invariant (moved d) (said (goal.at.loop-preserved c).After-step_at-step ∙ c.in-On.is)
 
 pub returns-in-Done : goal.returns-in-Done
 returns-in-Done c =
     let d = (goal.at.returns-in-Done c).After-cursor_step-next-in-loop in
-    let l = (goal.at.After-cursor_step-next-in-loop d).After-cursor_step-next in
-    let s = (goal.at.After-cursor_step-next l).After-cursor_step-arg-1 in
+    let s = (goal.at.After-cursor_step-next-in-loop d).Start in
     let p = s.ranges.b_period in
     let n = s.ranges.b_distance in
     let q = s.ranges.a_period in
     let m = s.ranges.a_distance in
-    let e = toward-done s.args.back (b-row s) (a-row s) (rules_own s) s.args.from l.loop.next (there d) l.loop.invariant (moved d) (said (goal.at.returns-in-Done c).After-step_at-step ∙ c.enum_told-in-Done-1.given.1) in
+    let e = toward-done s.args.back (b-row s) (a-row s) (rules_own s) s.args.from c.loop.next (there d) c.loop.invariant (moved d) (said (goal.at.returns-in-Done c).After-step_at-step ∙ c.in-Done.is) in
     sym (simp plain at e)
 
 pub returns-in-Out : goal.returns-in-Out
 returns-in-Out c =
     let d = (goal.at.returns-in-Out c).After-cursor_step-next-in-loop in
-    let l = (goal.at.After-cursor_step-next-in-loop d).After-cursor_step-next in
-    let s = (goal.at.After-cursor_step-next l).After-cursor_step-arg-1 in
+    let s = (goal.at.After-cursor_step-next-in-loop d).Start in
     let p = s.ranges.b_period in
     let n = s.ranges.b_distance in
     let q = s.ranges.a_period in
     let m = s.ranges.a_distance in
-    let e = toward-out s.args.back (b-row s) (a-row s) (rules_own s) s.args.from l.loop.next (there d) l.loop.invariant (moved d) (said (goal.at.returns-in-Out c).After-step_at-step ∙ c.enum_told-in-Out-1.given.1) in
+    let e = toward-out s.args.back (b-row s) (a-row s) (rules_own s) s.args.from c.loop.next (there d) c.loop.invariant (moved d) (said (goal.at.returns-in-Out c).After-step_at-step ∙ c.in-Out.is) in
     sym (simp plain at e)

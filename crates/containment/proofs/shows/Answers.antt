@@ -1,6 +1,6 @@
 -- `containment::shows` meets its contract: the label that the cursor shows is compared by its bits.
 -- Assumes nothing.
-use borrow.Author.Rules.{rules, sfits_of}
+use borrow.Author.Rules.{rules}
 use mathlib.Core.Path.{◌≡◌, sym, ◌∙◌, ap}
 use mathlib.Core.Option.{some}
 use lib.Dec.{eqb}
@@ -27,13 +27,5 @@ returns-in-At c u e =
     let p = s.ranges.period in
     let d = s.ranges.distance in
     let h = (simp plain at c.cursor_label-label.ensures) u e in
-    bits-test c.label-1.given.0.0 s.args.j (sfits_of c.known_told-1.given.0.1) s.ranges.j
-    ∙ ap (is s.args.j) (ap found (sym c.label-1.given.1) ∙ h)
-
-pub returns-in-Nothing : goal.returns-in-Nothing
-returns-in-Nothing c u e =
-    let s = (goal.at.returns-in-Nothing c).Start in
-    let p = s.ranges.period in
-    let d = s.ranges.distance in
-    let h = (simp plain at c.cursor_label-label.ensures) u e in
-    ap (is s.args.j) (ap found (sym c.enum_told-1.given.1) ∙ h)
+    bits-test c.in-At.i s.args.j (search rules) s.ranges.j
+    ∙ ap (is s.args.j) (ap found (sym c.in-At.is) ∙ h)

@@ -1,22 +1,21 @@
 -- `containment::step_at` meets its contract: each return is one of the answers.
 -- Assumes nothing.
-use borrow.Author.Rules.{rules, sfits_of}
-use mathlib.Core.Path.{◌≡◌, refl, sym, ◌∙◌, ap}
+use borrow.Author.Rules.{rules}
+use mathlib.Core.Path.{◌≡◌, sym, ◌∙◌, ap}
 use mathlib.Core.Option.{some}
-use mathlib.Core.Bool.{Bool, true, false, not}
 use mir.Syntax.{w64}
 use mir.Val.{SFits, of_z}
 use Rattle.integers.proofs.Machine.{plain, test-eq}
 use Rattle.calendar.specs.Meaning.{Row, meant}
 use Rattle.calendar.specs.Lists.{is}
 use Rattle.calendar.specs.Questions.{given}
-use Rattle.granules.proofs.Tests.{is-iff, false-iff, not_iff}
+use Rattle.granules.proofs.Tests.{is-iff, false-iff}
 use Rattle.cursors.specs.Found.{found}
 use Rattle.containment.specs.Places.{at}
 use Rattle.containment.proofs.Steps.{step-iff}
 use Rattle.containment.proofs.Steps.Says.{past, within, behind, outside}
 use Rattle.containment.proofs.step_at.Goals as goal
-use Rattle.containment.proofs.step_at.Goals.{After-cursor_label-arg-1, After-cursor_label-label, After-shows, After-shows-arg-1, Else-k-p, In-At, Start}
+use Rattle.containment.proofs.step_at.Goals.{Start, After-cursor_label-label, After-shows, Else-k-p, Else-k-p, In-At, Start}
 
 abbrev b-row : Start → Row
 b-row s = given s.args.b_period s.args.b_distance s.args.b_cells.now
@@ -25,42 +24,39 @@ abbrev a-row : Start → Row
 a-row s = given s.args.a_period s.args.a_distance s.args.a_cells.now
 
 -- the label of the place in b
-b-label : (c : After-cursor_label-label) → let s = (goal.at.After-cursor_label-label c).After-cursor_label-arg-1 in meant (b-row s) (at (b-row s) s.args.p) ≡ found c.cursor_label-label.result
+b-label : (c : After-cursor_label-label) → let s = (goal.at.After-cursor_label-label c).Start in meant (b-row s) (at (b-row s) s.args.p) ≡ found c.cursor_label-label.result
 b-label c =
-    let s = (goal.at.After-cursor_label-label c).After-cursor_label-arg-1 in
+    let s = (goal.at.After-cursor_label-label c).Start in
     let p = s.ranges.b_period in
     let n = s.ranges.b_distance in
     sym ((simp plain at c.cursor_label-label.ensures) (at (b-row s) s.args.p) s.requires.beside.b-cursor)
 
 pub returns-in_default : goal.returns-in_default
-returns-in_default c = sym ((step-iff _ _ _ _).1 (past (b-label (goal.at.returns-in_default c).After-cursor_label-label ∙ ap found c.enum_told-1.given.1)))
+returns-in_default c = sym ((step-iff _ _ _ _).1 (past (b-label (goal.at.returns-in_default c).After-cursor_label-label ∙ ap found c.in_default.is)))
 
-some-label : (c : In-At) → let s = (goal.at.In-At c).After-cursor_label-arg-1 in meant (b-row s) (at (b-row s) s.args.p) ≡ some c.label-1.given.0.0
-some-label c = b-label (goal.at.In-At c).After-cursor_label-label ∙ ap found c.label-1.given.1
+some-label : (c : In-At) → let s = (goal.at.In-At c).Start in meant (b-row s) (at (b-row s) s.args.p) ≡ some c.in-At.k
+some-label c = b-label (goal.at.In-At c).After-cursor_label-label ∙ ap found c.in-At.is
 
 pub returns-then-k-p : goal.returns-then-k-p
 returns-then-k-p c = sym ((step-iff _ _ _ _).1 (behind _ (some-label (goal.at.returns-then-k-p c).In-At) (λ e. c.if-k-p.true (ap (of_z w64) e))))
 
-own-label : (c : Else-k-p) → let s = (goal.at.Else-k-p c).After-cursor_label-arg-1 in meant (b-row s) (at (b-row s) s.args.p) ≡ some s.args.p.k
+own-label : (c : Else-k-p) → let s = (goal.at.Else-k-p c).Start in meant (b-row s) (at (b-row s) s.args.p) ≡ some s.args.p.k
 own-label c =
-    let k = (goal.at.Else-k-p c).In-At in
-    some-label k ∙ ap some ((test-eq w64 _ _ (sfits_of k.known_told-1.given.0.1) (sfits_of c.struct_told-1.given.1.0.1)).0 c.if-k-p.false)
+    let k : SFits w64 c.in-At.k = search rules in
+    let p : SFits w64 c.args.p.k = search rules in
+    some-label (goal.at.Else-k-p c).In-At ∙ ap some ((test-eq w64 _ _ k p).0 c.if-k-p.false)
 
 -- whether it is in a's granule
-shown : (c : After-shows) → let s = (goal.at.After-shows c).After-cursor_label-label in c.shows.result ≡ is s.args.p.i (meant (a-row s) (at (b-row s) s.args.p))
+shown : (c : After-shows) → let s = (goal.at.After-shows c).Start in c.shows.result ≡ is s.args.p.i (meant (a-row s) (at (b-row s) s.args.p))
 shown c =
-    let s = (goal.at.After-shows c).After-cursor_label-label in
+    let s = (goal.at.After-shows c).Start in
     let p = s.ranges.a_period in
     let n = s.ranges.a_distance in
-    let i : SFits w64 s.args.p.i = sfits_of c.struct_told-2-1.given.1.1.1.0.1 in
+    let i : SFits w64 s.args.p.i = search rules in
     (simp plain at c.shows.ensures) (at (b-row s) s.args.p) s.requires.beside.a-cursor
 
 pub returns-then-not-shows : goal.returns-then-not-shows
-returns-then-not-shows c = sym ((step-iff _ _ _ _).1 (outside (own-label (goal.at.returns-then-not-shows c).After-shows-arg-1) ((false-iff (is-iff _ _)).0 (sym (shown (goal.at.returns-then-not-shows c).After-shows) ∙ (not_iff c.shows.result).0 c.if-not-shows.true-raw))))
-
-not-false : (b : Bool) → not b ≡ false → b ≡ true
-not-false true e = refl
-not-false false e = sym e
+returns-then-not-shows c = sym ((step-iff _ _ _ _).1 (outside (own-label (goal.at.returns-then-not-shows c).Else-k-p) ((false-iff (is-iff _ _)).0 (sym (shown (goal.at.returns-then-not-shows c).After-shows) ∙ c.if-not-shows.true))))
 
 pub returns : goal.returns
-returns c = sym ((step-iff _ _ _ _).1 (within (own-label (goal.at.returns c).After-shows-arg-1) ((is-iff _ _).0 (sym (shown (goal.at.returns c).After-shows) ∙ not-false c.shows.result c.if-not-shows.false-raw))))
+returns c = sym ((step-iff _ _ _ _).1 (within (own-label (goal.at.returns c).Else-k-p) ((is-iff _ _).0 (sym (shown (goal.at.returns c).After-shows) ∙ c.if-not-shows.false))))

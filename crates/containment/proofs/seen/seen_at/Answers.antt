@@ -1,6 +1,6 @@
 -- `containment::seen::seen_at` meets its contract: the label of t in a is looked at, then that in b.
 -- Assumes nothing.
-use borrow.Author.Rules.{rules, sfits_of}
+use borrow.Author.Rules.{rules}
 use mathlib.Core.Path.{◌≡◌, sym, ◌∙◌, ap}
 use mathlib.Core.Option.{some}
 use native.Mathlib.Omega.{arith}
@@ -29,7 +29,7 @@ pub cursor_label-own-requires : goal.cursor_label-own-requires
 cursor_label-own-requires s =
     let p = s.ranges.a_period in
     let n = s.ranges.a_distance in
-    record { sound = (simp plain (s.requires.sound, (s.args.t, near s, s.requires.a_value))).0; standing = (simp plain (s.requires.sound, (s.args.t, near s, s.requires.a_value))).1 }
+    record { sound = simp plain s.requires.sound; standing = simp plain (s.args.t, near s, s.requires.a_value) }
 
 own_is : (c : After-cursor_label-own) → let s = (goal.at.After-cursor_label-own c).Start in meant (a-row s) s.args.t ≡ found c.cursor_label-own.result
 own_is c =
@@ -38,20 +38,17 @@ own_is c =
     let n = s.ranges.a_distance in
     sym ((simp plain at c.cursor_label-own.ensures) s.args.t s.requires.a_value)
 
-pub returns-in_default : goal.returns-in_default
-returns-in_default c = own_is (goal.at.returns-in_default c).After-cursor_label-own ∙ ap found c.enum_told-1.given.1
-
 abbrev begun : In-At → Start
 begun c = (goal.at.In-At c).Start
 
 abbrev own : In-At → ℤ
-own c = c.own-1.given.0.0
+own c = c.in-At.k
 
 own-fits : (c : In-At) → SFits w64 (own c)
-own-fits c = sfits_of c.known_told-1.given.0.1
+own-fits c = search rules
 
 own-some : (c : In-At) → meant (a-row (begun c)) (begun c).args.t ≡ some (own c)
-own-some c = own_is (goal.at.In-At c).After-cursor_label-own ∙ ap found c.own-1.given.1
+own-some c = own_is (goal.at.In-At c).After-cursor_label-own ∙ ap found c.in-At.is
 
 pub returns-then-k-j : goal.returns-then-k-j
 returns-then-k-j c =
@@ -67,7 +64,7 @@ cursor_label-label-requires c =
     let s = begun (goal.at.cursor_label-label-requires c).In-At in
     let p = s.ranges.b_period in
     let n = s.ranges.b_distance in
-    record { sound = (simp plain (s.requires.sound_2, (s.args.t, near s, s.requires.b_value))).0; standing = (simp plain (s.requires.sound_2, (s.args.t, near s, s.requires.b_value))).1 }
+    record { sound = simp plain s.requires.sound_2; standing = simp plain (s.args.t, near s, s.requires.b_value) }
 
 label_is : (c : After-cursor_label-label) → let s = begun (goal.at.After-cursor_label-label c).In-At in meant (b-row s) s.args.t ≡ found c.cursor_label-label.result
 label_is c =
@@ -79,10 +76,10 @@ label_is c =
 pub returns-in_default-label : goal.returns-in_default-label
 returns-in_default-label c =
     let d = (goal.at.returns-in_default-label c).After-cursor_label-label in
-    (in-granule (goal.at.After-cursor_label-label d).Else-k-j, label_is d ∙ ap found c.enum_told-in_default-label-1.given.1)
+    (in-granule (goal.at.After-cursor_label-label d).Else-k-j, label_is d ∙ ap found c.in_default-label.is)
 
 pub returns : goal.returns
 returns c =
     let d = (goal.at.returns c).After-cursor_label-label in
-    let k : SFits w64 c.label-1.given.0.0 = sfits_of c.known_told-in-At-label-1.given.0.1 in
-    (in-granule (goal.at.After-cursor_label-label d).Else-k-j, simp plain (label_is d ∙ ap found c.label-1.given.1))
+    let k : SFits w64 c.in-At-label.i = search rules in
+    (in-granule (goal.at.After-cursor_label-label d).Else-k-j, simp plain (label_is d ∙ ap found c.in-At-label.is))
