@@ -6,7 +6,6 @@ use mathlib.Core.Bool.{true}
 use Prim.Native.Nat.{ℕ, ◌*◌, ◌≤◌}
 use native.Mathlib.Omega.{arith}
 use lib.IntN.{ℤ, pos}
-use lib.Signed.{◌≤ℤ◌}
 use Rattle.integers.specs.Gcd.{gcd, euclid}
 use Rattle.integers.proofs.Linear.{ints, ◌∴◌}
 use Rattle.integers.proofs.Order.{≤ℤ-antisym}

@@ -8,7 +8,7 @@ use lib.IntN.{ℤ, pos, negsuc}
 use lib.Signed.{◌≤ℤ◌}
 use Rattle.integers.specs.Parts.{up}
 use Rattle.integers.proofs.Linear.{ints, ◌∴◌}
-use Rattle.calendar.specs.Limits.{between, in_range}
+use Rattle.calendar.specs.Limits.{in_range}
 use Rattle.calendar.specs.Reply.{require}
 use Rattle.calendar.specs.Reply.Reply.{answer}
 use Rattle.granules.proofs.Tests.{both_iff, between-iff}

@@ -1,10 +1,8 @@
 -- `bitmaps::any_set` meets its contract. The loop's invariant: the words before j are zero.
 -- Assumes nothing.
-use Rattle.words.specs.Places.{Clear}
 use Rattle.bitmaps.proofs.Words.{clear-join}
-use borrow.Author.Rules.{rules}
 use mathlib.Core.List.{List}
-use Prim.Native.Nat.{ℕ, ◌-◌, ◌≤◌, ◌<◌}
+use Prim.Native.Nat.{ℕ, ◌≤◌, ◌<◌}
 use native.Mathlib.Decide.{dec_lt}
 use native.Mathlib.Omega.{arith}
 use lib.ListN.{length, get_or, get_or-eq_default}

@@ -2,8 +2,7 @@
 -- Assumes nothing.
 use Rattle.bitmaps.specs.Zeros.{BitsIn, SomeWord}
 use Rattle.bitmaps.proofs.Words.{clear-more}
-use borrow.Author.Rules.{rules}
-use Prim.Native.Nat.{ℕ, ◌+◌, ◌-◌, ◌≤◌, ◌<◌}
+use Prim.Native.Nat.{ℕ, ◌+◌, ◌≤◌, ◌<◌}
 use mathlib.Core.Path.{◌≡◌, ap, ◌∙◌, subst}
 use mathlib.Core.List.{List}
 use native.Mathlib.Omega.{arith}

@@ -2,7 +2,6 @@
 -- Assumes nothing.
 use native.Mathlib.Omega.{arith}
 use Rattle.bitmaps.proofs.Search.{clear-past, first-here, first-later, first-nowhere}
-use borrow.Author.Rules.{rules}
 use Rattle.bitmaps.proofs.first_from.Goals as goal
 use Rattle.bitmaps.proofs.first_from.Goals.{After-nonzero_from-j, After-word_at, Start}
 

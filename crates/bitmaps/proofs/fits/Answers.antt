@@ -7,7 +7,6 @@ use borrow.Author.Tests.{eq-eqb, ne_eqb}
 use lib.ListN.{get_or}
 use Rattle.bitmaps.specs.Cells.{fitting}
 use Rattle.bitmaps.proofs.Fitting.{Filled, by-words}
-use borrow.Author.Rules.{rules}
 use Rattle.bitmaps.proofs.fits.Goals as goal
 use Rattle.bitmaps.proofs.fits.Goals.{After-word_at, Else-behind-ne0, Start}
 

@@ -6,7 +6,6 @@ use Prim.Native.Nat.{ℕ}
 use Rattle.words.specs.Bits.{bit}
 use Rattle.words.specs.Places.{Greatest}
 use Rattle.bitmaps.proofs.Search.{last-here, last-earlier, last-nowhere}
-use borrow.Author.Rules.{rules}
 use Rattle.bitmaps.proofs.last_below.Goals as goal
 use Rattle.bitmaps.proofs.last_below.Goals.{After-low_bits-low, After-nonzero_below-n, After-word_at-w, Start}
 

@@ -1,11 +1,7 @@
 -- `bitmaps::nonzero_below` meets its contract. The loop's invariant: the words from `end` up to i are zero.
 -- Assumes nothing.
-use Rattle.words.specs.Places.{Clear}
 use Rattle.bitmaps.proofs.Words.{clear-less}
-use borrow.Author.Rules.{rules}
-use Prim.Native.Nat.{◌≤◌}
 use native.Mathlib.Omega.{arith}
-use lib.ListN.{get_or}
 use Rattle.bitmaps.proofs.nonzero_below.Goals as goal
 
 pub returns-then-words-end-ne0 : goal.returns-then-words-end-ne0

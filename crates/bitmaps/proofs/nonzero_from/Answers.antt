@@ -1,11 +1,7 @@
 -- `bitmaps::nonzero_from` meets its contract. The loop's invariant: the words from i up to j are zero.
 -- Assumes nothing.
-use Rattle.words.specs.Places.{Clear}
 use Rattle.bitmaps.proofs.Words.{clear-more}
-use borrow.Author.Rules.{rules}
-use Prim.Native.Nat.{◌-◌, ◌≤◌}
 use native.Mathlib.Omega.{arith}
-use lib.ListN.{length, get_or}
 use Rattle.bitmaps.proofs.nonzero_from.Goals as goal
 
 pub returns-then-words-j-ne0 : goal.returns-then-words-j-ne0

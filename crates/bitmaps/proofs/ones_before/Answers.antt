@@ -3,7 +3,6 @@
 use native.Mathlib.Omega.{arith}
 use Rattle.words.specs.Bits.{cell}
 use Rattle.words.proofs.Tally.{tally-zero}
-use borrow.Author.Rules.{rules}
 use Rattle.bitmaps.proofs.ones_before.Goals as goal
 
 pub returns : goal.returns

@@ -3,12 +3,11 @@
 use native.Mathlib.Omega.{arith}
 use mathlib.Core.Path.{◌≡◌, ap}
 use mathlib.Core.List.{List}
-use Prim.Native.Nat.{ℕ, ◌+◌, ◌*◌, ◌/◌, ◌%◌, ◌≤◌}
+use Prim.Native.Nat.{ℕ, ◌+◌, ◌*◌, ◌/◌, ◌%◌}
 use lib.ListN.{get_or}
 use Rattle.words.specs.Bits.{bit, cell, tally}
 use Rattle.words.proofs.Tally.{tally-le, tally-mono}
 use Rattle.bitmaps.proofs.Words.{tally-word, cell-le}
-use borrow.Author.Rules.{rules}
 use Rattle.bitmaps.proofs.ones_between.Goals as goal
 use Rattle.bitmaps.proofs.ones_between.Goals.{After-ones_below, After-ones_below-2, Start}
 

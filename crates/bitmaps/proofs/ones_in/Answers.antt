@@ -3,9 +3,8 @@
 use Rattle.words.specs.Bits.{bit}
 use Rattle.words.proofs.Tally.{tally-le}
 use Rattle.words.proofs.Ones.{bit_le}
-use Rattle.bitmaps.proofs.Words.{tally-whole, cell-le}
-use borrow.Author.Rules.{rules}
-use Prim.Native.Nat.{ℕ, ◌+◌, ◌*◌, ◌-◌, ◌≤◌}
+use Rattle.bitmaps.proofs.Words.{tally-whole}
+use Prim.Native.Nat.{ℕ, ◌*◌, ◌≤◌}
 use mathlib.Core.Path.{◌≡◌, ap}
 use native.Mathlib.Omega.{arith}
 use lib.ListN.{get_or}

@@ -1,14 +1,7 @@
 -- `bitmaps::ones_in` meets its contract. The loop's invariant: the set cells of the words from i up to m are counted.
 -- Assumes nothing.
-use Rattle.words.specs.Bits.{bit}
-use Rattle.words.proofs.Tally.{tally-le}
-use Rattle.words.proofs.Ones.{bit_le}
-use Rattle.bitmaps.proofs.Words.{tally-whole, cell-le}
-use borrow.Author.Rules.{rules}
-use Prim.Native.Nat.{ℕ, ◌+◌, ◌*◌, ◌-◌, ◌≤◌}
-use mathlib.Core.Path.{◌≡◌, ap}
-use native.Mathlib.Omega.{arith}
-use lib.ListN.{get_or}
+use Prim.Native.Nat.{◌+◌, ◌*◌, ◌-◌, ◌≤◌}
+use mathlib.Core.Path.{◌≡◌}
 use Rattle.words.specs.Bits.{cell, tally}
 use Rattle.bitmaps.proofs.ones_in.Given as goal
 

@@ -4,7 +4,6 @@ use native.Mathlib.Omega.{arith}
 use Rattle.words.specs.Bits.{cell}
 use Rattle.words.proofs.Tally.{tally-le, tally-mono}
 use Rattle.bitmaps.proofs.Words.{cell-le}
-use borrow.Author.Rules.{rules}
 use Rattle.bitmaps.proofs.ones_outside.Goals as goal
 use Rattle.bitmaps.proofs.ones_outside.Goals.{Start}
 

@@ -2,7 +2,6 @@
 -- Assumes nothing.
 use mathlib.Core.Path.{sym}
 use lib.ListN.{get_or-eq_default}
-use borrow.Author.Rules.{rules}
 use Rattle.bitmaps.proofs.word_at.Goals as goal
 
 pub returns-else-i-words : goal.returns-else-i-words

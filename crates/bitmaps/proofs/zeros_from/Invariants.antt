@@ -1,10 +1,7 @@
 -- `bitmaps::zeros_from` meets its contract. The loop's invariant: the words from i up to j are zero.
 -- Assumes nothing.
 use Rattle.words.specs.Places.{Clear}
-use Rattle.bitmaps.proofs.Words.{clear-join}
-use borrow.Author.Rules.{rules}
 use Prim.Native.Nat.{◌-◌, ◌≤◌}
-use native.Mathlib.Omega.{arith}
 use lib.ListN.{length, get_or}
 use Rattle.bitmaps.proofs.zeros_from.Given as goal
 

@@ -1,6 +1,5 @@
 -- `codes::refusal_code` meets its contract: a number of 32 bits, with its sign changed, fits 64.
 -- Assumes nothing.
-use borrow.Author.Rules.{rules}
 use mathlib.Core.Path.{◌≡◌, ap, ◌∙◌}
 use Prim.Native.Nat.{ℕ, ◌<◌, ◌^◌}
 use native.Mathlib.Omega.{arith}

@@ -1,6 +1,5 @@
 -- `cursors::label_at` meets its contract: its label is that of its cursor.
 -- Assumes nothing.
-use borrow.Author.Rules.{rules}
 use Rattle.integers.proofs.Machine.{plain}
 use Rattle.cursors.proofs.label_at.Goals as goal
 

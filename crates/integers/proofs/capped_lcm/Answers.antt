@@ -1,6 +1,5 @@
 -- `integers::capped_lcm` meets its contract: the product is that of `lcm`, which is 0 where the divisor is.
 -- Assumes nothing.
-use borrow.Author.Rules.{rules}
 use mathlib.Core.Path.{◌≡◌, sym}
 use Prim.Native.Nat.{ℕ}
 use native.Mathlib.Nat.{div-zero, zero-mul}

@@ -1,9 +1,8 @@
 -- `integers::gcd` meets its contract. The loop keeps the greatest common divisor of x and y, and y falls.
 -- Assumes nothing.
-use mathlib.Core.Path.{◌≡◌, refl, sym, ◌∙◌}
+use mathlib.Core.Path.{sym, ◌∙◌}
 use native.Mathlib.Nat.{mod-lt}
 use native.Mathlib.Omega.{arith}
-use Rattle.integers.specs.Gcd.{gcd}
 use Rattle.integers.proofs.Divisors.{gcd-zero, gcd-step}
 use Rattle.integers.proofs.gcd.Goals as goal
 

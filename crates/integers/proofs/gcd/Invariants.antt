@@ -1,10 +1,7 @@
 -- `integers::gcd` meets its contract. The loop keeps the greatest common divisor of x and y, and y falls.
 -- Assumes nothing.
-use mathlib.Core.Path.{◌≡◌, refl, sym, ◌∙◌}
-use native.Mathlib.Nat.{mod-lt}
-use native.Mathlib.Omega.{arith}
+use mathlib.Core.Path.{◌≡◌}
 use Rattle.integers.specs.Gcd.{gcd}
-use Rattle.integers.proofs.Divisors.{gcd-zero, gcd-step}
 use Rattle.integers.proofs.gcd.Given as goal
 
 abbrev pub invariant-loop-y : goal.invariant-loop-y

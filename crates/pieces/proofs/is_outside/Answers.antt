@@ -1,6 +1,5 @@
 -- `pieces::is_outside` meets its contract: a cell is its label, or has none, and the two tests are those of `is_within`.
 -- Assumes nothing.
-use borrow.Author.Rules.{rules}
 use mathlib.Core.Path.{◌≡◌, refl, sym, ◌∙◌, ap}
 use mathlib.Core.Option.{Option, none}
 use mathlib.Core.Bool.{Bool, true, false, not, ◌&&◌, ◌||◌}
