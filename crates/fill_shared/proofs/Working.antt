@@ -19,7 +19,6 @@ use Rattle.integers.proofs.Order.{pos-up}
 use Rattle.calendar.specs.Meaning.{Row, label_of, empty}
 use Rattle.calendar.specs.Operation.{Operation}
 use Rattle.calendar.specs.Lists.{from, is_some, if_label}
-use Rattle.calendar.specs.Size as Size
 use Rattle.calendar.specs.Distance.{size}
 use Rattle.calendar.specs.Compute.{result, working, cell_of}
 use Rattle.calendar.specs.Checks.{throughout, unlabelled, labels_in_range}

@@ -1,6 +1,6 @@
 -- `fill_shared::last_before` meets its contract: it is a walk back from the instant −1.
 -- Assumes nothing.
-use borrow.Author.Rules.{rules, sfits_of}
+use borrow.Author.Rules.{rules}
 use mathlib.Core.Path.{◌≡◌, sym, ◌∙◌, ap}
 use mathlib.Core.Option.{none}
 use native.Mathlib.Omega.{arith}
@@ -16,7 +16,7 @@ use Rattle.granules.specs.Valid.{Valid}
 use Rattle.cursors.specs.Found.{Sound, Near, found}
 use Rattle.cursors.proofs.Numbers.{numbers, valid}
 use Rattle.containment.specs.Places.{instant}
-use Rattle.fill_shared.proofs.Before.{Back, left, back_start, back_end, back_on, back-less}
+use Rattle.fill_shared.proofs.Before.{back_start, back_end, back_on, back-less}
 use Rattle.fill_shared.proofs.last_before.Goals as goal
 use Rattle.fill_shared.proofs.last_before.Goals.{After-cursor_label-label, At-loop-j, In-Nothing, Start as Start-place}
 
@@ -67,8 +67,8 @@ returns-in-At c =
     let s = (goal.at.After-cursor_label-label l).Start in
     let p = s.ranges.period in
     let d = s.ranges.distance in
-    let k : SFits w64 c.label-1.given.0.0 = sfits_of c.known_told-1.given.0.1 in
-    let e = back_end (row s) (rules_own s) l.loop-j.c l.loop-j.invariant c.label-1.given.0.0 (label_is l ∙ ap found c.label-1.given.1) in
+    let k : SFits w64 c.in-At.j = search rules in
+    let e = back_end (row s) (rules_own s) l.loop-j.c l.loop-j.invariant c.in-At.j (label_is l ∙ ap found c.in-At.is) in
     to_z-of_z k ∙ (simp plain at e)
 
 pub cursor_back-c-requires : goal.cursor_back-c-requires
@@ -78,7 +78,7 @@ cursor_back-c-requires c =
 
 -- no label shows
 none_here : (c : In-Nothing) → let l = (goal.at.In-Nothing c).At-loop-j in meant (row (goal.at.At-loop-j l).Start) (instant (row (goal.at.At-loop-j l).Start) l.loop-j.c) ≡ none
-none_here c = label_is (goal.at.In-Nothing c).After-cursor_label-label ∙ ap found c.enum_told-1.given.1
+none_here c = label_is (goal.at.In-Nothing c).After-cursor_label-label ∙ ap found c.in-Nothing.is
 
 pub loop-j-smaller : goal.loop-j-smaller
 loop-j-smaller c =

@@ -1,7 +1,6 @@
 -- `fill_shared::store` meets its contract: a label within the limits fits a cell.
 -- Assumes nothing.
-use borrow.Author.Rules.{rules, sfits_of}
-use borrow.Author.Tests.{not-true, not-false}
+use borrow.Author.Rules.{rules}
 use mathlib.Core.Path.{◌≡◌, refl, sym, ◌∙◌, ap}
 use mathlib.Core.Option.{Option, some}
 use mathlib.Core.Bool.{true, false}
@@ -22,10 +21,10 @@ use Rattle.fill_shared.proofs.store.Goals.{Else-not-in_range, In-At, Start}
 
 -- the label, as the machine has it
 abbrev label : In-At → ℤ
-label c = to_z w64 (of_z w64 c.label-1.given.0.0)
+label c = to_z w64 (of_z w64 c.in-At.j)
 
 label_is : (c : In-At) → found c.args.label ≡ some (label c)
-label_is c = ap found c.label-1.given.1 ∙ ap some (sym (to_z-of_z (sfits_of c.known_told-1.given.0.1)))
+label_is c = ap found c.in-At.is ∙ ap some (sym (to_z-of_z {w = w64} (search rules)))
 
 within : (c : In-At) → if_label (found c.args.label) in_range ≡ in_range (label c)
 within c = ap (λ (l : Option ℤ). if_label l in_range) (label_is c)
@@ -33,11 +32,11 @@ within c = ap (λ (l : Option ℤ). if_label l in_range) (label_is c)
 pub returns-then-not-in_range : goal.returns-then-not-in_range
 returns-then-not-in_range c =
     let k = (goal.at.returns-then-not-in_range c).In-At in
-    let r : in_range (label k) ≡ false = sym c.in_range.ensures ∙ not-true _ c.if-not-in_range.true-raw in
-    record { within = ((sym (within k ∙ r), (refl, (λ e. absurd (true≢false e refl), λ e. refl)))).0; length = ((sym (within k ∙ r), (refl, (λ e. absurd (true≢false e refl), λ e. refl)))).1; cell = ((sym (within k ∙ r), (refl, (λ e. absurd (true≢false e refl), λ e. refl)))).2; kept = ((sym (within k ∙ r), (refl, (λ e. absurd (true≢false e refl), λ e. refl)))).3 }
+    let r : in_range (label k) ≡ false = sym c.in_range.ensures ∙ c.if-not-in_range.true in
+    record { within = sym (within k ∙ r); length = refl; cell = λ e. absurd (true≢false e refl); kept = λ e. refl }
 
 in-range : (c : Else-not-in_range) → in_range (label (goal.at.Else-not-in_range c).In-At) ≡ true
-in-range c = sym c.in_range.ensures ∙ not-false _ c.if-not-in_range.false-raw
+in-range c = sym c.in_range.ensures ∙ c.if-not-in_range.false
 
 pub overflow_cast-pool : goal.overflow_cast-pool
 overflow_cast-pool c = range-fits _ (in-range c)
@@ -46,10 +45,10 @@ pub returns-else-not-in_range : goal.returns-else-not-in_range
 returns-else-not-in_range c =
     let k = (goal.at.returns-else-not-in_range c).In-At in
     let s = (goal.at.In-At k).Start in
-    record { within = ((sym (within k ∙ in-range c), (length-set s.args.pool.now s.args.i _, (λ e. ap (set s.args.pool.now s.args.i) (to_z-of_z (overflow_cast-pool c) ∙ sym (ap cell_of (label_is k))), λ e. absurd (true≢false refl e))))).0; length = ((sym (within k ∙ in-range c), (length-set s.args.pool.now s.args.i _, (λ e. ap (set s.args.pool.now s.args.i) (to_z-of_z (overflow_cast-pool c) ∙ sym (ap cell_of (label_is k))), λ e. absurd (true≢false refl e))))).1; cell = ((sym (within k ∙ in-range c), (length-set s.args.pool.now s.args.i _, (λ e. ap (set s.args.pool.now s.args.i) (to_z-of_z (overflow_cast-pool c) ∙ sym (ap cell_of (label_is k))), λ e. absurd (true≢false refl e))))).2; kept = ((sym (within k ∙ in-range c), (length-set s.args.pool.now s.args.i _, (λ e. ap (set s.args.pool.now s.args.i) (to_z-of_z (overflow_cast-pool c) ∙ sym (ap cell_of (label_is k))), λ e. absurd (true≢false refl e))))).3 }
+    record { within = sym (within k ∙ in-range c); length = length-set s.args.pool.now s.args.i _; cell = λ e. ap (set s.args.pool.now s.args.i) (to_z-of_z (overflow_cast-pool c) ∙ sym (ap cell_of (label_is k))); kept = λ e. absurd (true≢false refl e) }
 
 pub returns-in-Nothing : goal.returns-in-Nothing
 returns-in-Nothing c =
     let s = (goal.at.returns-in-Nothing c).Start in
-    let q = c.enum_told-1.given.1 in
-    record { within = ((sym (ap (λ (l : Found). if_label (found l) in_range) q), (length-set s.args.pool.now s.args.i _, (λ e. ap (set s.args.pool.now s.args.i) (sym (ap (λ (l : Found). cell_of (found l)) q)), λ e. absurd (true≢false refl e))))).0; length = ((sym (ap (λ (l : Found). if_label (found l) in_range) q), (length-set s.args.pool.now s.args.i _, (λ e. ap (set s.args.pool.now s.args.i) (sym (ap (λ (l : Found). cell_of (found l)) q)), λ e. absurd (true≢false refl e))))).1; cell = ((sym (ap (λ (l : Found). if_label (found l) in_range) q), (length-set s.args.pool.now s.args.i _, (λ e. ap (set s.args.pool.now s.args.i) (sym (ap (λ (l : Found). cell_of (found l)) q)), λ e. absurd (true≢false refl e))))).2; kept = ((sym (ap (λ (l : Found). if_label (found l) in_range) q), (length-set s.args.pool.now s.args.i _, (λ e. ap (set s.args.pool.now s.args.i) (sym (ap (λ (l : Found). cell_of (found l)) q)), λ e. absurd (true≢false refl e))))).3 }
+    let q = c.in-Nothing.is in
+    record { within = sym (ap (λ (l : Found). if_label (found l) in_range) q); length = length-set s.args.pool.now s.args.i _; cell = λ e. ap (set s.args.pool.now s.args.i) (sym (ap (λ (l : Found). cell_of (found l)) q)); kept = λ e. absurd (true≢false refl e) }
