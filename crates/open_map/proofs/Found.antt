@@ -1,6 +1,6 @@
 -- The open instant that a set cell stands for: the next and the last, by the turn and the cell of an instant.
 -- Assumes nothing.
-use mathlib.Core.Path.{◌≡◌, sym, ◌∙◌, ap}
+use mathlib.Core.Path.{◌≡◌, refl, sym, ◌∙◌, ap}
 use mathlib.Core.Bool.{true}
 use mathlib.Core.List.{List}
 use Prim.Native.Nat.{ℕ, ◌+◌, ◌≤◌, ◌<◌}
@@ -13,12 +13,19 @@ use Rattle.integers.proofs.Linear.{ints, ◌∴◌}
 use Rattle.words.specs.Bits.{cell}
 use Rattle.words.specs.Places.{Clear, Least, Greatest}
 use Rattle.words.proofs.Tally.{tally-zero, tally-clear}
+use Rattle.bitmaps.specs.declared.Place.{Place}
+use Rattle.bitmaps.specs.declared.Place.TheVariants.{At, Nowhere}
 use Rattle.open_map.specs.Instants.{next_open, last_open}
 use Rattle.open_map.specs.Maps.{Map, map_given, is_open}
 use Rattle.open_map.specs.Turns.{rank, set_before}
 use Rattle.open_map.proofs.Given.{Given}
 use Rattle.open_map.proofs.Shown.{instant_of, rank-at, rank-end, open_at, rank_step, rank-busy}
 use Rattle.open_map.proofs.Ranks.{next-is, last-is}
+
+-- a place that is at no cell
+pub nowhere : (p : Place) → ((i : ℕ) → ¬ (p ≡ At i)) → p ≡ Nowhere
+nowhere (At i) h = absurd (h i refl)
+nowhere Nowhere h = refl
 
 module _ (period : ℤ) (words : List ℕ) (g : Given period words) where
   abbrev map : Map

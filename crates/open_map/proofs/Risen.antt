@@ -1,13 +1,11 @@
 -- How far the rank rises from a cell to another, over whole turns and a part of one.
 -- Assumes nothing.
-use mathlib.Core.Path.{◌≡◌, ◌∙◌, ap}
-use Prim.Native.Nat.{ℕ, ◌+◌, ◌≤◌}
+use mathlib.Core.Path.{◌≡◌, ap}
+use Prim.Native.Nat.{ℕ, ◌+◌}
 use native.Mathlib.Omega.{arith}
 use lib.IntN.{ℤ, pos, ◌+ℤ◌, ◌-ℤ◌, ◌*ℤ◌}
 use Rattle.integers.specs.Floor.{floor_div, floor_mod}
 use Rattle.integers.proofs.Linear.{ints, ◌∴◌}
-use Rattle.words.specs.Bits.{cell}
-use Rattle.words.proofs.Tally.{tally-mono}
 use Rattle.open_map.specs.Maps.{Map}
 use Rattle.open_map.specs.Turns.{set_before, rank, risen_over}
 

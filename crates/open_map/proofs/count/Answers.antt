@@ -2,10 +2,11 @@
 -- Assumes nothing.
 use mathlib.Core.Path.{◌≡◌, ◌∙◌, sym, ap}
 use mathlib.Core.Bool.{true}
-use borrow.Author.Rules.{rules, sfits_of}
+use borrow.Author.Rules.{sfits_of}
 use borrow.Author.Tests.{not-true, not-false}
 use lib.IntN.{pos}
 use mir.Facts.{to_z-of_z}
+use mir.Syntax.{w64}
 use Rattle.integers.proofs.Machine.{plain}
 use Rattle.calendar.specs.Reply.Reply.{answer}
 use Rattle.open_map.specs.Instants.{open_in}
@@ -48,7 +49,7 @@ count_of-requires c =
     let p = s.ranges.period in
     let f = s.ranges.s in
     let g = s.ranges.t in
-    record { sound = (simp plain (is-sound (goal.at.count_of-requires c).Else-not-sound, is-ordered c)).0; t_value = (simp plain (is-sound (goal.at.count_of-requires c).Else-not-sound, is-ordered c)).1 }
+    record { sound = simp plain (is-sound (goal.at.count_of-requires c).Else-not-sound); t_value = simp plain (is-ordered c) }
 
 pub returns : goal.returns
 unfolding count_reply

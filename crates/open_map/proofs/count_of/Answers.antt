@@ -8,6 +8,7 @@ use borrow.Author.Rules.{sfits_of}
 use lib.IntN.{ℤ, ◌-ℤ◌}
 use lib.Signed.{◌≤ℤ◌, le_z}
 use mir.Facts.{to_z-of_z}
+use mir.Syntax.{w64}
 use Rattle.integers.proofs.Linear.{ints, ◌∴◌}
 use Rattle.integers.proofs.Machine.{plain}
 use Rattle.calendar.specs.Limits.{in_range}
@@ -37,7 +38,7 @@ risen-requires c =
     let f = s.ranges.s in
     let g = s.ranges.t in
     let n = near s.args.s s.args.t s.requires.t_value in
-    record { sound = (simp plain (s.requires.sound, (n.0, n.1))).0; within = (simp plain (s.requires.sound, (n.0, n.1))).1 }
+    record { sound = simp plain s.requires.sound; within = simp plain (n.0, n.1) }
 
 pub returns : goal.returns
 returns c =

@@ -2,9 +2,10 @@
 -- Assumes nothing.
 use mathlib.Core.Path.{◌≡◌, ◌∙◌, sym, ap}
 use mathlib.Core.Bool.{true}
-use borrow.Author.Rules.{rules, sfits_of}
+use borrow.Author.Rules.{sfits_of}
 use borrow.Author.Tests.{not-true, not-false}
 use mir.Facts.{to_z-of_z}
+use mir.Syntax.{w64}
 use Rattle.integers.specs.Parts.{up}
 use Rattle.integers.proofs.Machine.{plain}
 use Rattle.calendar.specs.Reply.Reply.{answer}
@@ -45,7 +46,7 @@ last_of-requires c =
     let s = (goal.at.last_of-requires c).Start in
     let p = s.ranges.period in
     let x = s.ranges.x in
-    record { sound = (simp plain (is-sound (goal.at.last_of-requires c).Else-not-sound, (in-range s.args.x).0 (is-near c))).0; within = (simp plain (is-sound (goal.at.last_of-requires c).Else-not-sound, (in-range s.args.x).0 (is-near c))).1 }
+    record { sound = simp plain (is-sound (goal.at.last_of-requires c).Else-not-sound); within = simp plain ((in-range s.args.x).0 (is-near c)) }
 
 pub returns : goal.returns
 unfolding last_reply

@@ -69,4 +69,4 @@ returns c =
     let s = (goal.at.Else-period-gt-LONGEST_PERIOD d).Start in
     let l = low s.args.period (limits d).0 in
     simp (le-leb 1 (up s.args.period) l, le-leb (up s.args.period) pool_limit (high d))
-    (c.fits2.ensures ∙ ap (λ (n : ℕ). fitting n s.args.words.now) (cast-up s.args.period s.ranges.period (natural d)).2)
+    (c.fits.ensures ∙ ap (λ (n : ℕ). fitting n s.args.words.now) (cast-up s.args.period s.ranges.period (natural d)).2)

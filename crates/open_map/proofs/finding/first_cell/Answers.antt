@@ -2,11 +2,11 @@
 -- Assumes nothing.
 use mathlib.Core.Path.{subst}
 use native.Mathlib.Omega.{arith}
-use borrow.Author.Rules.{rules}
 use Rattle.words.proofs.Tally.{tally-none}
 use Rattle.words.specs.Bits.{cell}
 use Rattle.integers.specs.Parts.{up}
 use Rattle.bitmaps.specs.Cells.{FirstFrom}
+use Rattle.open_map.proofs.Found.{nowhere}
 use Rattle.open_map.proofs.Given.{Given, given, within}
 use Rattle.open_map.proofs.finding.first_cell.Goals as goal
 use Rattle.open_map.proofs.finding.first_cell.Goals.{After-first_from-place, Start}
@@ -25,10 +25,10 @@ returns-in_default c =
     let f = (goal.at.returns-in_default c).After-first_from-place in
     let s = (goal.at.After-first_from-place f).Start in
     let l = s.args.words.now in
-    let none = subst (FirstFrom l 0) c.enum_told-1.given.1 (found f) in
+    let none = subst (FirstFrom l 0) (nowhere _ c.in_default.not-At) (found f) in
     absurd (omega (arith, (known s).some, tally-none (cell l) (up s.args.period) (λ i h. none i (omega arith))))
 
 pub returns : goal.returns
 returns c =
     let f = (goal.at.returns c).After-first_from-place in
-    subst (FirstFrom f.args.words.now 0) c.place-1.given.1 (found f)
+    subst (FirstFrom f.args.words.now 0) c.in-At.is (found f)

@@ -3,7 +3,6 @@
 use mathlib.Core.Path.{◌≡◌, subst}
 use Prim.Native.Nat.{ℕ}
 use native.Mathlib.Omega.{arith}
-use borrow.Author.Rules.{rules}
 use lib.IntN.{pos, nat_abs}
 use lib.Signed.{◌≤ℤ◌}
 use mir.Syntax.{w64}
@@ -13,6 +12,7 @@ use Rattle.words.proofs.Tally.{tally-none}
 use Rattle.words.specs.Bits.{cell}
 use Rattle.integers.specs.Parts.{up}
 use Rattle.bitmaps.specs.Cells.{LastBelow}
+use Rattle.open_map.proofs.Found.{nowhere}
 use Rattle.open_map.proofs.Given.{Given, given, within}
 use Rattle.open_map.proofs.Numbers.{cast-up}
 use Rattle.open_map.proofs.finding.last_cell.Goals as goal
@@ -46,11 +46,11 @@ returns-in_default c =
     let s = (goal.at.After-last_below-place f).Start in
     let l = s.args.words.now in
     let n = up s.args.period in
-    let none = subst (LastBelow l n) c.enum_told-1.given.1 (found f) in
+    let none = subst (LastBelow l n) (nowhere _ c.in_default.not-At) (found f) in
     absurd (omega (arith, (known s).some, tally-none (cell l) n (λ i h. none i (omega arith) h)))
 
 pub returns : goal.returns
 returns c =
     let f = (goal.at.returns c).After-last_below-place in
     let s = (goal.at.After-last_below-place f).Start in
-    subst (LastBelow s.args.words.now (up s.args.period)) c.place-1.given.1 (found f)
+    subst (LastBelow s.args.words.now (up s.args.period)) c.in-At.is (found f)

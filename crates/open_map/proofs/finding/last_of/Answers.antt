@@ -3,7 +3,7 @@
 use mathlib.Core.Path.{◌≡◌, ◌∙◌, sym, ap, subst}
 use Prim.Native.Nat.{◌^◌, ◌≤◌}
 use native.Mathlib.Omega.{arith}
-use borrow.Author.Rules.{rules, sfits_of}
+use borrow.Author.Rules.{sfits_of}
 use lib.IntN.{ℤ, pos, ◌+ℤ◌, ◌-ℤ◌, ◌*ℤ◌}
 use mir.Facts.{to_z-of_z}
 use mir.Syntax.{w64}
@@ -18,7 +18,7 @@ use Rattle.words.specs.Places.{Greatest}
 use Rattle.bitmaps.specs.Cells.{LastBelow}
 use Rattle.open_map.proofs.Given.{Given, given, turning, within}
 use Rattle.open_map.proofs.Numbers.{Placed, placed}
-use Rattle.open_map.proofs.Found.{set_below, last-here, last_turn}
+use Rattle.open_map.proofs.Found.{nowhere, set_below, last-here, last_turn}
 use Rattle.open_map.proofs.finding.last_of.Goals as goal
 use Rattle.open_map.proofs.finding.last_of.Goals.{After-last_below-place, After-last_cell-last, After-turn_of-at, In-At, In_default, Start}
 
@@ -70,7 +70,7 @@ composed-requires c =
     let p = s.ranges.period in
     let f = (there (goal.at.composed-requires c).After-turn_of-at).turn-fits in
     let b = beside-fits c in
-    record { turning = (simp plain (turning s.args.period s.args.words.now (known s), (beside c ∴ simp ints (omega arith), omega (arith, there-cell c)))).0; within = (simp plain (turning s.args.period s.args.words.now (known s), (beside c ∴ simp ints (omega arith), omega (arith, there-cell c)))).1 }
+    record { turning = simp plain (turning s.args.period s.args.words.now (known s)); within = simp plain (beside c ∴ simp ints (omega arith), omega (arith, there-cell c)) }
 
 pub returns-in_default : goal.returns-in_default
 returns-in_default c =
@@ -87,14 +87,14 @@ returns-in_default c =
     let i : c.composed.result ≡ s.args.period *ℤ (r.turn -ℤ pos 1) +ℤ pos d.last_cell-last.result = simp plain at c.composed.ensures in
     to_z-of_z {w = w64} (sfits_of c.composed.type_inv) ∙ i ∙ ap (λ (z : ℤ). z *ℤ (r.turn -ℤ pos 1) +ℤ pos d.last_cell-last.result) (known s).period-is
     ∙ sym (last_turn s.args.period l (known s) s.args.x r.turn r.cell d.last_cell-last.result (there a).is (there a).below
-    (subst (LastBelow l r.cell) e.enum_told-1.given.1 k.last_below-place.ensures) (simp plain at d.last_cell-last.ensures))
+    (subst (LastBelow l r.cell) (nowhere _ e.in_default.not-At) k.last_below-place.ensures) (simp plain at d.last_cell-last.ensures))
 
 -- a cell of this turn
-found : (c : In-At) → let a = (goal.at.In-At c).After-turn_of-at in Greatest (cell a.args.words.now) a.turn_of-at.result.cell c.place-1.given.0.0
+found : (c : In-At) → let a = (goal.at.In-At c).After-turn_of-at in Greatest (cell a.args.words.now) a.turn_of-at.result.cell c.in-At.i
 found c =
     let k = (goal.at.In-At c).After-last_below-place in
     let a = (goal.at.After-last_below-place k).After-turn_of-at in
-    subst (LastBelow a.args.words.now a.turn_of-at.result.cell) c.place-1.given.1 k.last_below-place.ensures
+    subst (LastBelow a.args.words.now a.turn_of-at.result.cell) c.in-At.is k.last_below-place.ensures
 
 pub composed-requires-2 : goal.composed-requires-2
 composed-requires-2 c =
@@ -102,7 +102,7 @@ composed-requires-2 c =
     let s = (goal.at.After-turn_of-at a).Start in
     let p = s.ranges.period in
     let f = (there a).turn-fits in
-    record { turning = (simp plain (turning s.args.period s.args.words.now (known s), ((there a).near ∴ simp ints (omega arith), omega (arith, (known s).high, set_below s.args.period s.args.words.now (known s) c.place-1.given.0.0 (found c).set)))).0; within = (simp plain (turning s.args.period s.args.words.now (known s), ((there a).near ∴ simp ints (omega arith), omega (arith, (known s).high, set_below s.args.period s.args.words.now (known s) c.place-1.given.0.0 (found c).set)))).1 }
+    record { turning = simp plain (turning s.args.period s.args.words.now (known s)); within = simp plain ((there a).near ∴ simp ints (omega arith), omega (arith, (known s).high, set_below s.args.period s.args.words.now (known s) c.in-At.i (found c).set)) }
 
 pub returns : goal.returns
 returns c =
@@ -110,7 +110,7 @@ returns c =
     let a = (goal.at.In-At d).After-turn_of-at in
     let s = (goal.at.After-turn_of-at a).Start in
     let r = a.turn_of-at.result in
-    let n = d.place-1.given.0.0 in
+    let n = d.in-At.i in
     let p = s.ranges.period in
     let f = (there a).turn-fits in
     let i : c.composed-2.result ≡ s.args.period *ℤ r.turn +ℤ pos n = simp plain at c.composed-2.ensures in

@@ -1,6 +1,5 @@
 -- `open_map::turns::composed` meets its contract: the product stays within 2 ^ 62.
 -- Assumes nothing.
-use borrow.Author.Rules.{rules}
 use Prim.Native.Nat.{◌^◌, ◌<◌}
 use native.Mathlib.Omega.{arith}
 use lib.IntN.{pos, ◌+ℤ◌, ◌*ℤ◌}

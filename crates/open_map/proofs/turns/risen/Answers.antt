@@ -4,7 +4,7 @@ use mathlib.Core.Path.{◌≡◌, ◌∙◌, ap}
 use Prim.Native.Nat.{ℕ, ◌^◌, ◌≤◌}
 use native.Mathlib.Omega.{arith}
 use borrow.Author.Rules.{sfits_of}
-use lib.IntN.{ℤ, pos, ◌-ℤ◌}
+use lib.IntN.{ℤ, ◌-ℤ◌}
 use mir.Facts.{to_z-of_z}
 use mir.Syntax.{w64}
 use mir.Val.{SFits}
@@ -82,7 +82,7 @@ risen_on-requires c =
     let f = (to a).turn-fits in
     let g = (from (goal.at.After-turn_of-to a).After-turn_of-from).turn-fits in
     let u = turns_fit a in
-    record { sound = (simp plain (s.requires.sound, (near a, c.if-a-c.true, (cells a).1))).0; within = (simp plain (s.requires.sound, (near a, c.if-a-c.true, (cells a).1))).1 }
+    record { sound = simp plain s.requires.sound; within = simp plain (near a, c.if-a-c.true, (cells a).1) }
 
 pub risen_round-requires : goal.risen_round-requires
 risen_round-requires c =
@@ -92,7 +92,7 @@ risen_round-requires c =
     let f = (to a).turn-fits in
     let g = (from (goal.at.After-turn_of-to a).After-turn_of-from).turn-fits in
     let u = turns_fit a in
-    record { sound = (simp plain (s.requires.sound, (near a, omega (arith, c.if-a-c.false), (cells a).0))).0; within = (simp plain (s.requires.sound, (near a, omega (arith, c.if-a-c.false), (cells a).0))).1 }
+    record { sound = simp plain s.requires.sound; within = simp plain (near a, omega (arith, c.if-a-c.false), (cells a).0) }
 
 -- what they give
 risen-so : (c : After-turn_of-to) (z : ℤ)

@@ -1,14 +1,13 @@
 -- `open_map::turns::risen_on` meets its contract.
 -- Assumes nothing.
 use mathlib.Core.Path.{◌≡◌, ◌∙◌, ap}
-use Prim.Native.Nat.{ℕ, ◌+◌, ◌^◌, ◌≤◌, ◌<◌}
+use Prim.Native.Nat.{◌+◌, ◌^◌, ◌≤◌, ◌<◌}
 use native.Mathlib.Omega.{arith}
 use borrow.Author.Rules.{sfits_of}
 use lib.IntN.{pos, ◌+ℤ◌, ◌*ℤ◌}
 use lib.Signed.{◌≤ℤ◌}
 use mir.Facts.{to_z-of_z}
 use mir.Syntax.{w64}
-use mir.Val.{SFits}
 use Rattle.integers.specs.Parts.{up}
 use Rattle.integers.proofs.Linear.{ints, ◌∴◌}
 use Rattle.integers.proofs.Machine.{plain, test-eq}
@@ -89,7 +88,7 @@ composed-requires c =
     let u = s.ranges.turns in
     let f = total-few c in
     let b : c.ones_outside.result + c.ones_between-middle.result < 2 ^ 63 = omega arith in
-    record { turning = (simp plain (f ∴ simp ints (omega arith), (s.requires.within.0 ∴ simp ints (omega arith), omega (arith, few (goal.at.composed-requires c).After-ones_between-middle)))).0; within = (simp plain (f ∴ simp ints (omega arith), (s.requires.within.0 ∴ simp ints (omega arith), omega (arith, few (goal.at.composed-requires c).After-ones_between-middle)))).1 }
+    record { turning = simp plain (f ∴ simp ints (omega arith)); within = simp plain (s.requires.within.0 ∴ simp ints (omega arith), omega (arith, few (goal.at.composed-requires c).After-ones_between-middle)) }
 
 pub returns : goal.returns
 returns c =

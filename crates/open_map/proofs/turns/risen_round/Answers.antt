@@ -1,7 +1,7 @@
 -- `open_map::turns::risen_round` meets its contract.
 -- Assumes nothing.
 use mathlib.Core.Path.{◌≡◌, ◌∙◌, ap}
-use Prim.Native.Nat.{ℕ, ◌+◌, ◌^◌, ◌≤◌, ◌<◌}
+use Prim.Native.Nat.{◌+◌, ◌^◌, ◌≤◌, ◌<◌}
 use native.Mathlib.Omega.{arith}
 use borrow.Author.Rules.{sfits_of}
 use lib.IntN.{pos, ◌+ℤ◌, ◌-ℤ◌, ◌*ℤ◌}
@@ -106,7 +106,7 @@ composed-requires c =
     let v = less-fits s in
     let f = total-few c in
     let b : c.ones_outside-outside.result + c.ones_between.result < 2 ^ 63 = omega arith in
-    record { turning = (simp plain (f ∴ simp ints (omega arith), (s.requires.within.0 ∴ simp ints (omega arith), omega (arith, few (goal.at.composed-requires c).After-ones_outside-outside)))).0; within = (simp plain (f ∴ simp ints (omega arith), (s.requires.within.0 ∴ simp ints (omega arith), omega (arith, few (goal.at.composed-requires c).After-ones_outside-outside)))).1 }
+    record { turning = simp plain (f ∴ simp ints (omega arith)); within = simp plain (s.requires.within.0 ∴ simp ints (omega arith), omega (arith, few (goal.at.composed-requires c).After-ones_outside-outside)) }
 
 pub returns : goal.returns
 returns c =

@@ -6,6 +6,7 @@ use borrow.Author.Rules.{sfits_of}
 use lib.IntN.{pos}
 use lib.Signed.{◌≤ℤ◌}
 use mir.Facts.{to_z-of_z}
+use mir.Syntax.{w64}
 use Rattle.integers.specs.Parts.{up}
 use Rattle.integers.specs.Floor.{floor_div, floor_mod}
 use Rattle.integers.proofs.Linear.{ints, ◌∴◌}
