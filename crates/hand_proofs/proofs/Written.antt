@@ -8,6 +8,7 @@
 use mathlib.Core.Path.{◌≡◌, refl, sym, ◌∙◌, ap, subst}
 use Prim.Native.Nat.{ℕ, zero, suc, ◌+◌, ◌-◌, ◌≤◌, ◌<◌}
 use native.Mathlib.Numerals.{add-one-le}
+use native.Mathlib.Omega.{arith}
 use mathlib.Core.WellFounded.InvImage
 use mathlib.Core.WellFounded.{WellFounded}
 use mathlib.Core.List.{List, [], ◌∷◌}
@@ -42,6 +43,14 @@ module _ {X : Type 0} where
   pub wrote-all : (g : ℕ → X) (ys : List X) → wrote g ys (length ys) ≡ tabled g (length ys)
   wrote-all g [] = refl
   wrote-all g (y ∷ ys) = behind g y ys (length ys) ∙ ap (λ (l : List X). g zero ∷ l) (wrote-all (λ k. g (suc k)) ys)
+
+-- a loop that has written its first i places has ended, as i is behind the last
+module _ {X : Type 0} where
+  pub wrote-end : (g : ℕ → X) (ys zs : List X) (i : ℕ) → i ≤ length ys → zs ≡ wrote g ys i → length zs ≤ i → zs ≡ tabled g (length ys)
+  wrote-end g ys zs i h e b =
+      let l : length zs ≡ length ys = ap length e ∙ length-wrote g ys i in
+      let n : i ≡ length ys = omega arith in
+      e ∙ ap (wrote g ys) n ∙ wrote-all g ys
 
 abbrev pub Upto : ℕ → Type 0
 Upto n = (i : ℕ) × (i ≤ n)

@@ -160,7 +160,7 @@ read-to hs (suc i) b = next hs i (omega arith) (read_upto hs i) (read-to hs i (o
 
 -- there are four numbers for each entry that a table may have
 pub read_length : (r : Read) (vs : List Val) → Is D.the_row r vs → length r.numbers ≡ most
-read_length r vs is = sym (length-map r.numbers (λ v. v)) ∙ (LL.owed D.the_type D'.the_laws r vs is).0.1.0.1
+read_length r vs is = (LL.owed D.the_type D'.the_laws r vs is).0.1.0.1
 
 pub most-few : (n : ℕ) → n < entry_limit → at_most n ≡ n
 most-few n b = ap (λ (c : Bool). cond c n entry_limit) (lt-ltb n entry_limit b)

@@ -24,7 +24,7 @@ among c = ⊎_elim (λ w. w.1 ∙ sym (most-few _ w.0.taken)) (λ w. w.1 ∙ sym
 few : (c : After-row_known-1) → c.if-lent-lt-ENTRY_LIMIT.entries ≤ entry_limit
 few c = omega (arith, among c, most-limit c.args.lent)
 
-long : (c : After-row_known-1) → length c.args.read.numbers-1 ≡ (heading_length * entry_limit)
+long : (c : After-row_known-1) → length c.args.read.numbers ≡ (heading_length * entry_limit)
 long c = read_length c.args.read _ c.well-formed.1.0
 
 pub overflow_mul-numbers : goal.overflow_mul-numbers
@@ -36,19 +36,19 @@ slice_bounds-numbers-end c = omega (arith, few c, long c)
 pub slice_bounds-check-end : goal.slice_bounds-check-end
 slice_bounds-check-end c =
     let k = (goal.at.slice_bounds-check-end c).After-row_known-1 in
-    sym (length-take-le (heading_length * k.if-lent-lt-ENTRY_LIMIT.entries) k.args.read.numbers-1 (omega (arith, few k, long k)))
+    sym (length-take-le (heading_length * k.if-lent-lt-ENTRY_LIMIT.entries) k.args.read.numbers (omega (arith, few k, long k)))
 
 -- the verdict on the headings that are compared
 verdict-is : (c : After-check-verdict) → let a = c.args in
-    c.check-verdict.result ≡ check a.table.now (take (heading_length * at_most a.lent) a.read.numbers-1) a.pool.now
+    c.check-verdict.result ≡ check a.table.now (take (heading_length * at_most a.lent) a.read.numbers) a.pool.now
 verdict-is c =
     let a = c.args in
-    c.check-verdict.ensures ∙ ap (λ (i : ℕ). check a.table.now (take (heading_length * i) a.read.numbers-1) a.pool.now) (among (goal.at.After-check-verdict c).After-row_known-1)
+    c.check-verdict.ensures ∙ ap (λ (i : ℕ). check a.table.now (take (heading_length * i) a.read.numbers) a.pool.now) (among (goal.at.After-check-verdict c).After-row_known-1)
 
 -- what the headings beyond make of a verdict
 told : (c : After-check-verdict) (z : Bool) → let a = c.args in a.read.zero ≡ z → (v : Verdict) → c.check-verdict.result ≡ v
     → beyond z (length a.table.now / 6) v
-    ≡ beyond a.read.zero (length a.table.now / 6) (check a.table.now (take (heading_length * at_most a.lent) a.read.numbers-1) a.pool.now)
+    ≡ beyond a.read.zero (length a.table.now / 6) (check a.table.now (take (heading_length * at_most a.lent) a.read.numbers) a.pool.now)
 told c z e v f =
     let a = c.args in
     ap₂ (λ (b : Bool) (w : Verdict). beyond b (length a.table.now / 6) w) (sym e) (sym f ∙ verdict-is c)

@@ -18,48 +18,27 @@ use Rattle.steps.specs.declared.Walk.{Walk}
 use Rattle.steps.specs.State.{progress_of, walk_of, Gives}
 use Rattle.walk_records.specs.Passing.{told_of, inner_of, has_ended, Passes}
 use Rattle.walk_records.proofs.step_read.Goals as goal
-use Rattle.walk_records.proofs.step_read.Goals.{After-at_most-first, After-has_ended-kept, After-step-stepped}
-
-few : (c : After-at_most-first) → c.at_most-first.result ≤ entry_limit
-few c = omega (arith, c.at_most-first.ensures, most-limit c.args.lent)
-
-long : (c : After-at_most-first) → length c.args.read.numbers-1 ≡ (heading_length * entry_limit)
-long c = read_length c.args.read _ c.well-formed.1.1.0
-
-pub overflow_mul-first : goal.overflow_mul-first
-overflow_mul-first c = record { fits = omega (arith, few c) }
-
-pub slice_bounds-numbers-end : goal.slice_bounds-numbers-end
-slice_bounds-numbers-end c = omega (arith, few (goal.at.slice_bounds-numbers-end c).After-at_most-first, long (goal.at.slice_bounds-numbers-end c).After-at_most-first)
-
-pub slice_bounds-step-end : goal.slice_bounds-step-end
-slice_bounds-step-end c =
-    let k = (goal.at.slice_bounds-step-end c).After-at_most-first in
-    sym (length-take-le (heading_length * k.at_most-first.result) k.args.read.numbers-1 (omega (arith, few k, long k)))
 
 -- what the call ensures, with the walk's own lengths
-passed : (w : Walk) (t : List ℤ) (x : Read) (n m told : ℕ) (pool : List ℤ) → m ≡ at_most n → told ≡ told_of w.lengths-1.headings x.zero n
+passed : (w : Walk) (t : List ℤ) (x : Read) (n m told : ℕ) (pool : List ℤ) → m ≡ at_most n → told ≡ told_of w.lengths.headings x.zero n
     → (kept : Bool) → kept ≡ has_ended (progress_of w.progress) → (r : Walk) (numbers : List ℕ) (after : List ℤ)
-    → Gives (W.call (record { lengths = record { table = w.lengths-1.table; headings = told; pool = w.lengths-1.pool-1 }; progress = progress_of w.progress }) t (take (heading_length * m) x.numbers-1) pool) r numbers after
-    → Passes (walk_of w).lengths (W.call (inner_of (walk_of w) x.zero n) t (take (heading_length * at_most n) x.numbers-1) pool) (drop (heading_length * at_most n) x.numbers-1) (has_ended (walk_of w).progress)
-    (record { walk = record { lengths = w.lengths-1; progress = r.progress }; numbers = numbers ++ drop (heading_length * m) x.numbers-1; kept = kept }) after
+    → Gives (W.call (record { lengths = record { table = w.lengths.table; headings = told; pool = w.lengths.pool }; progress = progress_of w.progress }) t (take (heading_length * m) x.numbers) pool) r numbers after
+    → Passes (walk_of w).lengths (W.call (inner_of (walk_of w) x.zero n) t (take (heading_length * at_most n) x.numbers) pool) (drop (heading_length * at_most n) x.numbers) (has_ended (walk_of w).progress)
+    (record { walk = record { lengths = w.lengths; progress = r.progress }; numbers = numbers ++ drop (heading_length * m) x.numbers; kept = kept }) after
 passed w t x n m told pool e f kept k r numbers after g =
-    let call : ℕ → ℕ → W.Left = λ i l. W.call (record { lengths = record { table = w.lengths-1.table; headings = l; pool = w.lengths-1.pool-1 }; progress = progress_of w.progress }) t (take (heading_length * i) x.numbers-1) pool in
-    let same : call m told ≡ call (at_most n) (told_of w.lengths-1.headings x.zero n) = ap₂ call e f in
+    let call : ℕ → ℕ → W.Left = λ i l. W.call (record { lengths = record { table = w.lengths.table; headings = l; pool = w.lengths.pool }; progress = progress_of w.progress }) t (take (heading_length * i) x.numbers) pool in
+    let same : call m told ≡ call (at_most n) (told_of w.lengths.headings x.zero n) = ap₂ call e f in
     let p = ap (λ (v : W.Walk). v.progress) (g.state ∙ ap (λ (s : W.Left). s.walk) same) in
     record {
       state = λ i. record { lengths = (walk_of w).lengths; progress = p i };
-      numbers = ap₂ (λ (l : List ℕ) (i : ℕ). l ++ drop (heading_length * i) x.numbers-1) (g.numbers-1 ∙ ap (λ (s : W.Left). s.headings) same) e;
+      numbers = ap₂ (λ (l : List ℕ) (i : ℕ). l ++ drop (heading_length * i) x.numbers) (g.numbers ∙ ap (λ (s : W.Left). s.headings) same) e;
       stay = k;
-      cells = g.cells ∙ ap (λ (s : W.Left). s.pool-1) same;
+      cells = g.cells ∙ ap (λ (s : W.Left). s.pool) same;
     }
 
 pub returns : goal.returns
 returns c =
-    let b = (goal.at.returns c).After-step-stepped in
-    let h = (goal.at.After-step-stepped b).After-has_ended-kept in
-    let k = (goal.at.After-has_ended-kept h).After-at_most-first in
-    let a = k.args in
-    passed a.walk a.table.now a.read a.lent k.at_most-first.result _ a.pool.now k.at_most-first.ensures h.told.ensures _ h.has_ended-kept.ensures
-    b.step-stepped.result b.step-stepped.new.headings b.step-stepped.new.pool
-    b.step-stepped.ensures
+    let a = c.args in
+    passed a.walk a.table.now a.read a.lent c.at_most-first.result _ a.pool.now c.at_most-first.ensures c.told.ensures _ c.has_ended-kept.ensures
+    c.step-stepped.result c.step-stepped.new.headings c.step-stepped.new.pool
+    c.step-stepped.ensures
