@@ -1,14 +1,14 @@
 -- `one_cell::is_along` meets its contract: no cell has another label.
 -- Assumes nothing.
-use mathlib.Core.Path.{◌≡◌, sym, subst}
+use mathlib.Core.Path.{◌≡◌, ◌∙◌, sym, subst}
 use Prim.Native.Nat.{◌<◌, ◌≤◌}
 use native.Mathlib.Omega.{arith}
 use lib.IntN.{ℤ, pos}
 use lib.ListN.{length, get_or}
+use mir.Facts.{to_z-of_z}
 use mir.Syntax.{w32}
 use mir.Val.{SFits}
 use Rattle.integers.proofs.Linear.{ints, ◌∴◌}
-use Rattle.integers.proofs.Machine.{plain}
 use Rattle.calendar.specs.Meaning.{empty}
 use Rattle.calendar.specs.Limits.{pool_limit}
 use Rattle.granules.proofs.Tests.{eqb-iff}
@@ -44,13 +44,15 @@ pub bounds-one_cells-0 : goal.bounds-one_cells-0
 bounds-one_cells-0 c = here c
 
 pub others-requires : goal.others-requires
-others-requires c = let f = only-fits (goal.at.others-requires c).Start in record { within = (simp plain (only-within (goal.at.others-requires c).Start, few (goal.at.others-requires c).Start)).0; cells_len_bound = (simp plain (only-within (goal.at.others-requires c).Start, few (goal.at.others-requires c).Start)).1 }
+others-requires c =
+    let s = (goal.at.others-requires c).Start in
+    let e = to_z-of_z (only-fits s) in
+    record { within = rw e (only-within s); cells_len_bound = few s }
 
 pub returns : goal.returns
 returns c =
     let s = (goal.at.returns c).Start in
-    let f = only-fits s in
-    let h = simp plain at c.others.ensures in
+    let e = to_z-of_z (only-fits s) in
     let i = eqb-iff c.others.result 0 in
     let l : ℤ → Type 0 = λ z. Along z s.args.cells.now in
-    record { is = λ e. subst l (sym (only-is s)) (h.0 (i.0 e)); back = λ a. i.1 (h.1 (subst l (only-is s) a)) }
+    record { is = λ t. subst l (e ∙ sym (only-is s)) (c.others.ensures.none (i.0 t)); back = λ a. i.1 (c.others.ensures.along (subst l (only-is s ∙ sym e) a)) }

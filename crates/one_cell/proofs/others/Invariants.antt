@@ -1,24 +1,14 @@
 -- `one_cell::others` meets its contract: the loop counts the cells that it has passed with another label.
 -- Assumes nothing.
-use mathlib.Core.Path.{◌≡◌, refl, sym, ◌∙◌, ap, subst}
-use mathlib.Core.Logic.{⊎_elim}
+use mathlib.Core.Path.{◌≡◌}
 use mathlib.Core.Option.{some}
 use mathlib.Core.List.{List}
-use borrow.Author.Count.{below_more}
-use borrow.Author.Rules.{sfits_of}
-use Prim.Native.Nat.{ℕ, ◌+◌, ◌-◌, ◌≤◌, ◌<◌}
-use native.Mathlib.Omega.{arith}
+use Prim.Native.Nat.{ℕ, ◌-◌, ◌≤◌, ◌<◌}
 use lib.IntN.{ℤ, pos, ◌+ℤ◌}
 use lib.ListN.{length, get_or}
-use mir.Facts.{to_z-of_z}
 use mir.Syntax.{w32}
-use mir.Val.{SFits, to_z, of_z}
-use Rattle.integers.proofs.Linear.{ints, ◌∴◌}
-use Rattle.integers.proofs.Machine.{plain, Bits, bits-read, test-eq}
+use mir.Val.{SFits}
 use Rattle.calendar.specs.Meaning.{label_of, empty}
-use Rattle.granules.proofs.Tests.{none≢some}
-use Rattle.granules.proofs.Rows.{label_is, label-index}
-use Rattle.cursors.proofs.Cells.{get_d_any, label-empty, label-full, empty-iff, bits-empty}
 use Rattle.one_cell.specs.Along.{Along}
 use Rattle.one_cell.proofs.others.Given as goal
 
@@ -26,10 +16,11 @@ use Rattle.one_cell.proofs.others.Given as goal
 abbrev pub At : ℤ → List ℤ → ℕ → Type 0
 At c cells k = (j : ℤ) → label_of (get_or cells k empty) ≡ some j → j ≡ c +ℤ pos k
 
-pub record Inv (c : ℤ) (cells : List ℤ) (count label i : ℕ) : Type 0 where
+pub record Inv (c : ℤ) (cells : List ℤ) (count : ℕ) (label : ℤ) (i : ℕ) : Type 0 where
   pub few : count ≤ i
   pub within : i ≤ length cells
-  pub next : Bits w32 label (c +ℤ pos i)
+  pub fits : SFits w32 (c +ℤ pos i)
+  pub next : label ≡ c +ℤ pos i
   pub none : count ≡ 0 → (k : ℕ) → k < i → At c cells k
   pub along : Along c cells → count ≡ 0
 

@@ -1,6 +1,5 @@
 -- `one_cell::serves` meets its contract: the labels rise by one, and the last is within the limits.
 -- Assumes nothing.
-use borrow.Author.Rules.{rules}
 use mathlib.Core.Path.{refl}
 use Prim.Native.Nat.{◌<◌, ◌^◌}
 use native.Mathlib.Omega.{arith}
