@@ -9,6 +9,7 @@ ghost use Rattle.questions.specs.Answers.{placed_reply};
 
 use jogipahn::{Conversion, Heading, Placing, Reader};
 use printing::{print, print_number, print_refusal, print_turn};
+use std::io;
 
 mod asking;
 
@@ -52,29 +53,34 @@ fn read_up_instant(t: i64, cells: &[i32], period: i64, distance: i64) -> Placing
     .up_instant(t)
 }
 
-fn print_conversion(answer: Conversion) {
+fn print_conversion(rt: &impl Print, answer: Conversion) -> io::Result<()> {
     match answer {
-        Conversion::Converted => print(b"converted\n"),
-        Conversion::Refused(number, entry) => print_refusal(number, entry),
+        Conversion::Converted => print(rt, b"converted\n"),
+        Conversion::Refused(number, entry) => print_refusal(rt, number, entry),
     }
 }
 
-fn print_heading(row: Heading, pool: &[i32]) {
-    print(b"start ");
-    print_number(row.start as i64);
-    print(b", period ");
-    print_number(row.period as i64);
-    print(b", distance ");
-    print_number(row.distance as i64);
-    print(b", slots ");
-    print_number(row.granules as i64);
-    print(b":");
-    print_turn(asking::row_of(pool, row), row.period as usize, 0, 0);
-    print(b"\n");
+fn print_heading(rt: &impl Print, row: Heading, pool: &[i32]) -> io::Result<()> {
+    print(rt, b"start ")?;
+    print_number(rt, row.start as i64)?;
+    print(rt, b", period ")?;
+    print_number(rt, row.period as i64)?;
+    print(rt, b", distance ")?;
+    print_number(rt, row.distance as i64)?;
+    print(rt, b", slots ")?;
+    print_number(rt, row.granules as i64)?;
+    print(rt, b":")?;
+    print_turn(rt, asking::row_of(pool, row), row.period as usize, 0, 0)?;
+    print(rt, b"\n")
 }
 
 // Converts with records: the table, and one whose entry 1 has no kind.
-fn with_records(table: &[i32], unknown: &[i32], pool: &mut [i32]) {
+fn with_records(
+    rt: &impl Print,
+    table: &[i32],
+    unknown: &[i32],
+    pool: &mut [i32],
+) -> io::Result<()> {
     let headings = [Heading {
         start: 9,
         period: 9,
@@ -83,38 +89,38 @@ fn with_records(table: &[i32], unknown: &[i32], pool: &mut [i32]) {
     }; ENTRIES];
     let done = convert_records(table, headings, &mut *pool);
     let answer = done.answer;
-    print_conversion(answer);
+    print_conversion(rt, answer)?;
     let rows = done.headings;
-    print_heading(rows[3], &*pool);
-    asking::ask(&*pool, rows[1], rows[3], rows[4]);
+    print_heading(rt, rows[3], &*pool)?;
+    asking::ask(rt, &*pool, rows[1], rows[3], rows[4])?;
     let refused = convert_records(unknown, headings, &mut *pool);
     let answer = refused.answer;
-    print_conversion(answer);
+    print_conversion(rt, answer)?;
     let zeros = refused.headings;
-    print_heading(zeros[0], &*pool);
+    print_heading(rt, zeros[0], &*pool)
 }
 
-fn print_numbers(distance: u32, granules: u32) {
-    print(b"distance ");
-    print_number(distance as i64);
-    print(b", slots ");
-    print_number(granules as i64);
-    print(b"\n");
+fn print_numbers(rt: &impl Print, distance: u32, granules: u32) -> io::Result<()> {
+    print(rt, b"distance ")?;
+    print_number(rt, distance as i64)?;
+    print(rt, b", slots ")?;
+    print_number(rt, granules as i64)?;
+    print(rt, b"\n")
 }
 
 // Converts with plain numbers: the table, and for one number too few.
-fn with_numbers(table: &[i32], pool: &mut [i32]) {
+fn with_numbers(rt: &impl Print, table: &[i32], pool: &mut [i32]) -> io::Result<()> {
     let mut numbers = [1u32; HEADING * ENTRIES];
-    print_conversion(jogipahn::convert_plain(table, &mut numbers, &mut *pool));
-    print_numbers(numbers[HEADING * 3 + 2], numbers[HEADING * 3 + 3]);
+    print_conversion(rt, jogipahn::convert_plain(table, &mut numbers, &mut *pool))?;
+    print_numbers(rt, numbers[HEADING * 3 + 2], numbers[HEADING * 3 + 3])?;
     let mut few = [1u32; HEADING * ENTRIES - 1];
-    print_conversion(jogipahn::convert_plain(table, &mut few, &mut *pool));
+    print_conversion(rt, jogipahn::convert_plain(table, &mut few, &mut *pool))
 }
 
-fn main() {
+fn main(rt: HostRuntime) -> io::Result<()> {
     let table = TABLE;
     let unknown = [0, 0, 0, 0, 0, 0, 13, 0, 0, 0, 0, 0];
     let mut pool = [5i32; 40];
-    with_records(&table, &unknown, &mut pool);
-    with_numbers(&table, &mut pool);
+    with_records(&rt, &table, &unknown, &mut pool)?;
+    with_numbers(&rt, &table, &mut pool)
 }

@@ -7,18 +7,18 @@ use Rattle.journal_file.specs.declared.window.Sight.TheVariants as Sight
 use Rattle.journal_file.specs.declared.window.Last.{Last}
 use Rattle.journal_file.specs.declared.window.Last.TheVariants as Last
 
--- how many bytes a window has: a trailer, and the last byte of its body
+-- how many bytes a window has
 abbrev pub window_length : ℕ
-window_length = 7
+window_length = 8192
 
--- a body is no longer than a text, and nothing before it is read; the next window ends a little behind this one's start
+-- a body is no longer than a text, and stands where a file can be read; the next window ends a little behind this one's
+-- start
 abbrev pub Seen : ℕ → Sight → Type 0
-Seen base (Sight.Body start n) = (n ≤ text_limit) × (start ≤ base)
+Seen base (Sight.Body start n) = (n ≤ text_limit) × (start < 2 ^ 63)
 Seen base (Sight.Before end) = (0 < base) × (end ≡ base + overlap)
 Seen base Sight.Empty = Unit {0}
 Seen base Sight.Failed = Unit {0}
 
--- the body stands where a file can be read
 abbrev pub Within : Last → Type 0
 Within (Last.Body start n) = (n ≤ text_limit) × (start < 2 ^ 63)
 Within Last.Empty = Unit {0}

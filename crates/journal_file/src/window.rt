@@ -3,11 +3,12 @@
 ghost use Rattle.std.specs.Prelude.{◌≡◌, ◌+◌, ◌-◌, ◌≤◌, ◌<◌, ◌^◌};
 ghost use Rattle.journal_file.specs.Seen.{window_length, Seen, Within};
 
-use crate::input::fill_at;
 use journal::Step;
+use journal_store::input::fill_at;
+use std::io::{Read, Seek};
 
-// How many bytes of the file are looked at together: a trailer and the last byte of its body, so that nothing before the body is read.
-const WINDOW: usize = 7;
+// How many bytes of the file are looked at together.
+const WINDOW: usize = 8192;
 
 // What a look into a window comes to: where the last table's text starts and how many bytes it has, where the next
 // window ends, that there is none, or that the file could not be read.
@@ -34,17 +35,25 @@ fn window_start(end: usize) -> usize
     if WINDOW < end { end - WINDOW } else { 0 }
 }
 
-// Looks through the n bytes from `base` on.
-fn look(fd: i32, base: usize, n: usize) -> Sight
+// Looks through the n bytes from `base` on. Where they can't be read, that is told of the path.
+fn look(
+    rt: &(impl Eprint + Alloc),
+    path: &str,
+    file: &mut (impl Read + Seek),
+    base: usize,
+    n: usize,
+) -> Sight
     requires { (n ≤ window_length) × (base + window_length < 2 ^ 63) }
     ensures { Seen base result }
 {
     let mut window = [0u8; WINDOW];
-    let got = fill_at(fd, base, &mut window, n);
-    if got < 0 {
-        return Sight::Failed;
-    }
-    let k = io::count(got, &window);
+    let k = match fill_at(file, base, &mut window, n) {
+        Ok(k) => k,
+        Err(error) => {
+            programs::tell_failure(rt, path, error);
+            return Sight::Failed;
+        }
+    };
     let step = journal::step_back(&window[..k], base);
     match step {
         Step::Body(start, length) => Sight::Body(start, length),
@@ -54,14 +63,19 @@ fn look(fd: i32, base: usize, n: usize) -> Sight
 }
 
 // Looks through the first `size` bytes of the file, from their end.
-pub(crate) fn search(fd: i32, size: usize) -> Last
+pub(crate) fn search(
+    rt: &(impl Eprint + Alloc),
+    path: &str,
+    file: &mut (impl Read + Seek),
+    size: usize,
+) -> Last
     requires { size < 2 ^ 63 }
     ensures { Within result }
 {
     let mut end = size;
     loop {
         let base = window_start(end);
-        let seen = look(fd, base, end - base);
+        let seen = look(rt, path, file, base, end - base);
         match seen {
             Sight::Body(start, n) => return Last::Body(start, n),
             Sight::Before(next) => {

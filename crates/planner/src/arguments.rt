@@ -6,8 +6,7 @@ ghost use Rattle.std.specs.Prelude.{◌<◌};
 use crate::refusals;
 use calendar::Refusal;
 use dates::Instant;
-use io::write_all;
-use libc::STDERR_FILENO;
+use std::rt::Env;
 
 // A number has no more digits than this value; a greater one counts as this, which is outside all limits.
 const GREAT: u64 = 1000000000000;
@@ -89,12 +88,8 @@ pub fn is_word(word: &[u8], this: &[u8]) -> bool {
 }
 
 // Tells that an argument is not what it is to be.
-fn tell_bad(i: usize, what: &[u8]) {
-    write_all(STDERR_FILENO, b"slots: argument ");
-    io::print_decimal(STDERR_FILENO, i as u64);
-    write_all(STDERR_FILENO, b" is no ");
-    write_all(STDERR_FILENO, what);
-    write_all(STDERR_FILENO, b"; slots alone prints what to give\n");
+fn tell_bad(rt: &impl Eprint, i: usize, what: &str) {
+    let _ = eprint!(rt; "slots: argument {i} is no {what}; slots alone prints what to give\n");
 }
 
 fn byte_at(s: &[u8], i: usize) -> u8 {
@@ -180,12 +175,12 @@ fn number_of(s: &[u8]) -> Number {
 }
 
 // The instant of a date that is written as 2026-11-16.
-fn date_of(s: &[u8], i: usize) -> When {
+fn date_of(rt: &impl Eprint, s: &[u8], i: usize) -> When {
     let year = digits(s, sign_length(s));
     let month = digits_behind(s, year.end, b'-');
     let day = digits_behind(s, month.end, b'-');
     if day.end != s.len() {
-        tell_bad(i, b"date and no whole number");
+        tell_bad(rt, i, "date and no whole number");
         return When::Nothing;
     }
     let minus = byte_at(s, 0) == b'-';
@@ -197,7 +192,7 @@ fn date_of(s: &[u8], i: usize) -> When {
     match instant {
         Instant::At(t) => When::Is(t, true),
         Instant::Refused(refusal) => {
-            refusals::tell(refusal.number());
+            refusals::tell(rt, refusal.number());
             When::Nothing
         }
     }
@@ -234,38 +229,38 @@ fn allowance_of(s: &[u8]) -> Allowed {
 }
 
 // Whether argument i is there.
-pub fn given(i: usize) -> bool {
-    i < os::arg_count()
+pub fn given(rt: &impl Env, i: usize) -> bool {
+    programs::is_given(rt, i)
 }
 
 // The argument i as a whole number.
-pub fn number_at(i: usize) -> Number {
+pub fn number_at(rt: &(impl Env + Eprint), i: usize) -> Number {
     let mut word = [0u8; WORD];
-    let n = os::arg(i, &mut word);
+    let n = programs::argument(rt, i, &mut word);
     let found = number_of(&word[..n]);
     if let Number::Nothing = found {
-        tell_bad(i, b"whole number");
+        tell_bad(rt, i, "whole number");
     }
     found
 }
 
 // The argument i as a date or an instant.
-pub fn when_at(i: usize) -> When {
+pub fn when_at(rt: &(impl Env + Eprint), i: usize) -> When {
     let mut word = [0u8; WORD];
-    let n = os::arg(i, &mut word);
+    let n = programs::argument(rt, i, &mut word);
     let found = number_of(&word[..n]);
     match found {
         Number::Is(t) => When::Is(t, false),
-        Number::Nothing => date_of(&word[..n], i),
+        Number::Nothing => date_of(rt, &word[..n], i),
     }
 }
 
-pub fn allowance_at(i: usize) -> Allowed {
+pub fn allowance_at(rt: &(impl Env + Eprint), i: usize) -> Allowed {
     let mut word = [0u8; WORD];
-    let n = os::arg(i, &mut word);
+    let n = programs::argument(rt, i, &mut word);
     let found = allowance_of(&word[..n]);
     if let Allowed::Nothing = found {
-        tell_bad(i, b"number of days and no share");
+        tell_bad(rt, i, "number of days and no share");
     }
     found
 }
@@ -296,17 +291,17 @@ fn row_at(headings: &[u32], k: usize) -> Row {
 }
 
 // The argument i as an entry of the table.
-pub fn entry_at(i: usize, headings: &[u32]) -> Entry {
-    let Number::Is(k) = number_at(i) else {
+pub fn entry_at(rt: &(impl Env + Eprint), i: usize, headings: &[u32]) -> Entry {
+    let Number::Is(k) = number_at(rt, i) else {
         return Entry::Nothing;
     };
     if k < 0 || ENTRIES <= k {
-        tell_bad(i, b"entry of the table");
+        tell_bad(rt, i, "entry of the table");
         return Entry::Nothing;
     }
     let row = row_at(headings, natural(k) as usize);
     if row.period == 0 {
-        tell_bad(i, b"entry of the table");
+        tell_bad(rt, i, "entry of the table");
         return Entry::Nothing;
     }
     Entry::Is(row)

@@ -7,46 +7,59 @@ use open_map::OpenNumber;
 use open_steps::OpenStep;
 use printing::{print, print_number};
 use questions::{Placing, Up};
+use std::io;
+use std::rt::Env;
 
-fn print_step(step: OpenStep, dated: bool) {
+fn print_step(rt: &(impl Print + Eprint), step: OpenStep, dated: bool) -> io::Result<()> {
     match step {
-        OpenStep::At(t) => print_when(t, dated),
-        OpenStep::Nothing => print(b"closed"),
-        OpenStep::Refused(refusal) => refusals::tell(refusal.number()),
+        OpenStep::At(t) => print_when(rt, t, dated),
+        OpenStep::Nothing => print(rt, b"closed"),
+        OpenStep::Refused(refusal) => {
+            refusals::tell(rt, refusal.number());
+            Ok(())
+        }
     }
 }
 
 // What a closed instant has beside it.
-fn print_closed(t: i64, dated: bool, pool: &[i32], row: Row) {
+fn print_closed(
+    rt: &(impl Print + Eprint),
+    t: i64,
+    dated: bool,
+    pool: &[i32],
+    row: Row,
+) -> io::Result<()> {
     let period = row.period as i64;
     let distance = row.distance as i64;
-    print_when(t, dated);
-    print(b": closed; last open ");
+    print_when(rt, t, dated)?;
+    print(rt, b": closed; last open ")?;
     print_step(
+        rt,
         open_row::nth_open(t, -1, cells_of(pool, row), period, distance),
         dated,
-    );
-    print(b", next open ");
+    )?;
+    print(rt, b", next open ")?;
     print_step(
+        rt,
         open_row::nth_open(t, 1, cells_of(pool, row), period, distance),
         dated,
-    );
-    print(b"\n");
+    )?;
+    print(rt, b"\n")
 }
 
-fn print_open(t: i64, dated: bool, label: i64, place: u64) {
-    print_when(t, dated);
-    print(b": slot ");
-    print_number(label);
-    print(b", place ");
-    io::print_decimal(1, place);
-    print(b"\n");
+fn print_open(rt: &impl Print, t: i64, dated: bool, label: i64, place: u64) -> io::Result<()> {
+    print_when(rt, t, dated)?;
+    print(rt, b": slot ")?;
+    print_number(rt, label)?;
+    print(rt, b", place ")?;
+    rt.print(place)?;
+    print(rt, b"\n")
 }
 
 // The slot of an instant.
-fn up_instant(row: Row, pool: &[i32]) {
-    let When::Is(t, dated) = arguments::when_at(3) else {
-        return;
+fn up_instant(rt: &(impl Env + Print + Eprint), row: Row, pool: &[i32]) -> io::Result<()> {
+    let When::Is(t, dated) = arguments::when_at(rt, 3) else {
+        return Ok(());
     };
     let placing = questions::up_instant(
         t,
@@ -55,31 +68,42 @@ fn up_instant(row: Row, pool: &[i32]) {
         row.distance as i64,
     );
     match placing {
-        Placing::At(label, place) => print_open(t, dated, label, place),
-        Placing::Nothing => print_closed(t, dated, pool, row),
-        Placing::Refused(refusal) => refusals::tell(refusal.number()),
+        Placing::At(label, place) => print_open(rt, t, dated, label, place),
+        Placing::Nothing => print_closed(rt, t, dated, pool, row),
+        Placing::Refused(refusal) => {
+            refusals::tell(rt, refusal.number());
+            Ok(())
+        }
     }
 }
 
-fn print_up(up: Up) {
+fn print_up(rt: &(impl Print + Eprint), up: Up) -> io::Result<()> {
     match up {
         Up::Label(label) => {
-            print(b"slot ");
-            print_number(label);
-            print(b"\n");
+            print(rt, b"slot ")?;
+            print_number(rt, label)?;
+            print(rt, b"\n")
         }
-        Up::Nothing => print(b"no slot holds all of it\n"),
-        Up::Refused(refusal) => refusals::tell(refusal.number()),
+        Up::Nothing => print(rt, b"no slot holds all of it\n"),
+        Up::Refused(refusal) => {
+            refusals::tell(rt, refusal.number());
+            Ok(())
+        }
     }
 }
 
 // The slot of another entry that holds a slot.
-fn up_slot(row: Row, headings: &[u32], pool: &[i32]) {
-    let Number::Is(label) = arguments::number_at(3) else {
-        return;
+fn up_slot(
+    rt: &(impl Env + Print + Eprint),
+    row: Row,
+    headings: &[u32],
+    pool: &[i32],
+) -> io::Result<()> {
+    let Number::Is(label) = arguments::number_at(rt, 3) else {
+        return Ok(());
     };
-    let Entry::Is(of) = arguments::entry_at(4, headings) else {
-        return;
+    let Entry::Is(of) = arguments::entry_at(rt, 4, headings) else {
+        return Ok(());
     };
     let up = questions::up_granule(
         label,
@@ -90,41 +114,44 @@ fn up_slot(row: Row, headings: &[u32], pool: &[i32]) {
         of.period as i64,
         of.distance as i64,
     );
-    print_up(up);
+    print_up(rt, up)
 }
 
-pub fn up(headings: &[u32], pool: &[i32]) {
-    let Entry::Is(row) = arguments::entry_at(2, headings) else {
-        return;
+pub fn up(rt: &(impl Env + Print + Eprint), headings: &[u32], pool: &[i32]) -> io::Result<()> {
+    let Entry::Is(row) = arguments::entry_at(rt, 2, headings) else {
+        return Ok(());
     };
-    if arguments::given(4) {
-        up_slot(row, headings, pool);
+    if arguments::given(rt, 4) {
+        up_slot(rt, row, headings, pool)
     } else {
-        up_instant(row, pool);
+        up_instant(rt, row, pool)
     }
 }
 
-fn print_nth(step: OpenStep, dated: bool) {
+fn print_nth(rt: &(impl Print + Eprint), step: OpenStep, dated: bool) -> io::Result<()> {
     match step {
         OpenStep::At(t) => {
-            print_when(t, dated);
-            print(b"\n");
+            print_when(rt, t, dated)?;
+            print(rt, b"\n")
         }
-        OpenStep::Nothing => print(b"closed\n"),
-        OpenStep::Refused(refusal) => refusals::tell(refusal.number()),
+        OpenStep::Nothing => print(rt, b"closed\n"),
+        OpenStep::Refused(refusal) => {
+            refusals::tell(rt, refusal.number());
+            Ok(())
+        }
     }
 }
 
 // So many open instants on or back.
-pub fn nth(headings: &[u32], pool: &[i32]) {
-    let Entry::Is(row) = arguments::entry_at(2, headings) else {
-        return;
+pub fn nth(rt: &(impl Env + Print + Eprint), headings: &[u32], pool: &[i32]) -> io::Result<()> {
+    let Entry::Is(row) = arguments::entry_at(rt, 2, headings) else {
+        return Ok(());
     };
-    let When::Is(t, dated) = arguments::when_at(3) else {
-        return;
+    let When::Is(t, dated) = arguments::when_at(rt, 3) else {
+        return Ok(());
     };
-    let Number::Is(n) = arguments::number_at(4) else {
-        return;
+    let Number::Is(n) = arguments::number_at(rt, 4) else {
+        return Ok(());
     };
     let step = open_row::nth_open(
         t,
@@ -133,35 +160,41 @@ pub fn nth(headings: &[u32], pool: &[i32]) {
         row.period as i64,
         row.distance as i64,
     );
-    print_nth(step, dated);
+    print_nth(rt, step, dated)
 }
 
-fn print_between(number: OpenNumber) {
+fn print_between(rt: &(impl Print + Eprint), number: OpenNumber) -> io::Result<()> {
     match number {
         OpenNumber::Is(n) => {
-            print_number(n);
-            print(b"\n");
+            print_number(rt, n)?;
+            print(rt, b"\n")
         }
-        OpenNumber::Refused(refusal) => refusals::tell(refusal.number()),
+        OpenNumber::Refused(refusal) => {
+            refusals::tell(rt, refusal.number());
+            Ok(())
+        }
     }
 }
 
 // How many open instants there are between two.
-pub fn between(headings: &[u32], pool: &[i32]) {
-    let Entry::Is(row) = arguments::entry_at(2, headings) else {
-        return;
+pub fn between(rt: &(impl Env + Print + Eprint), headings: &[u32], pool: &[i32]) -> io::Result<()> {
+    let Entry::Is(row) = arguments::entry_at(rt, 2, headings) else {
+        return Ok(());
     };
-    let When::Is(from, _) = arguments::when_at(3) else {
-        return;
+    let When::Is(from, _) = arguments::when_at(rt, 3) else {
+        return Ok(());
     };
-    let When::Is(to, _) = arguments::when_at(4) else {
-        return;
+    let When::Is(to, _) = arguments::when_at(rt, 4) else {
+        return Ok(());
     };
-    print_between(open_row::between(
-        from,
-        to,
-        cells_of(pool, row),
-        row.period as i64,
-        row.distance as i64,
-    ));
+    print_between(
+        rt,
+        open_row::between(
+            from,
+            to,
+            cells_of(pool, row),
+            row.period as i64,
+            row.distance as i64,
+        ),
+    )
 }

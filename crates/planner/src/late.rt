@@ -5,6 +5,8 @@ use crate::{arguments, refusals};
 use floats::Allowance;
 use printing::print;
 use questions::Late;
+use std::io;
+use std::rt::Env;
 
 // The greatest lateness that may be asked about.
 const GREATEST: u64 = 1048576;
@@ -22,7 +24,14 @@ fn allowance_of(allowed: Allowed) -> Allowance {
     }
 }
 
-fn ask(label: i64, d: i64, allowed: Allowed, row: Row, pool: &[i32]) {
+fn ask(
+    rt: &(impl Print + Eprint),
+    label: i64,
+    d: i64,
+    allowed: Allowed,
+    row: Row,
+    pool: &[i32],
+) -> io::Result<()> {
     let late = questions::may_be_late(
         label,
         d,
@@ -32,25 +41,28 @@ fn ask(label: i64, d: i64, allowed: Allowed, row: Row, pool: &[i32]) {
         row.distance as i64,
     );
     match late {
-        Late::Allowed => print(b"allowed\n"),
-        Late::TooLate => print(b"too late\n"),
-        Late::Refused(refusal) => refusals::tell(refusal.number()),
+        Late::Allowed => print(rt, b"allowed\n"),
+        Late::TooLate => print(rt, b"too late\n"),
+        Late::Refused(refusal) => {
+            refusals::tell(rt, refusal.number());
+            Ok(())
+        }
     }
 }
 
-pub fn run(headings: &[u32], pool: &[i32]) {
-    let Entry::Is(row) = arguments::entry_at(2, headings) else {
-        return;
+pub fn run(rt: &(impl Env + Print + Eprint), headings: &[u32], pool: &[i32]) -> io::Result<()> {
+    let Entry::Is(row) = arguments::entry_at(rt, 2, headings) else {
+        return Ok(());
     };
-    let Number::Is(label) = arguments::number_at(3) else {
-        return;
+    let Number::Is(label) = arguments::number_at(rt, 3) else {
+        return Ok(());
     };
-    let Number::Is(d) = arguments::number_at(4) else {
-        return;
+    let Number::Is(d) = arguments::number_at(rt, 4) else {
+        return Ok(());
     };
-    let allowed = arguments::allowance_at(5);
+    let allowed = arguments::allowance_at(rt, 5);
     if let Allowed::Nothing = allowed {
-        return;
+        return Ok(());
     }
-    ask(label, d, allowed, row, pool);
+    ask(rt, label, d, allowed, row, pool)
 }

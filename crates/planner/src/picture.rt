@@ -9,6 +9,8 @@ use crate::{arguments, refusals, year};
 use dates::Instant;
 use printing::{print, print_number};
 use questions::Placing;
+use std::io;
+use std::rt::Env;
 
 // How many places a month has beside the others: 31 days behind at most 6.
 const PLACES: u32 = 37;
@@ -20,209 +22,287 @@ const DRAWN: u32 = 1120;
 const LINE: u32 = 28;
 
 // Eight colours that are told apart; neighbouring slots have different ones.
-fn print_colour(label: i64) {
+fn print_colour(rt: &impl Print, label: i64) -> io::Result<()> {
     match integers::floor_mod(label, 8) {
-        0 => print(b"#4477aa"),
-        1 => print(b"#ee6677"),
-        2 => print(b"#228833"),
-        3 => print(b"#ccbb44"),
-        4 => print(b"#66ccee"),
-        5 => print(b"#aa3377"),
-        6 => print(b"#ee7733"),
-        _ => print(b"#009988"),
+        0 => print(rt, b"#4477aa"),
+        1 => print(rt, b"#ee6677"),
+        2 => print(rt, b"#228833"),
+        3 => print(rt, b"#ccbb44"),
+        4 => print(rt, b"#66ccee"),
+        5 => print(rt, b"#aa3377"),
+        6 => print(rt, b"#ee7733"),
+        _ => print(rt, b"#009988"),
     }
 }
 
-fn print_fill(placing: Placing) {
+fn print_fill(rt: &impl Print, placing: Placing) -> io::Result<()> {
     match placing {
         Placing::At(label, _) => {
-            print(b"\" fill=\"");
-            print_colour(label);
-            print(b"\">");
+            print(rt, b"\" fill=\"")?;
+            print_colour(rt, label)?;
+            print(rt, b"\">")
         }
-        _ => print(b"\" fill=\"#eeeeee\" stroke=\"#bbbbbb\">"),
+        _ => print(rt, b"\" fill=\"#eeeeee\" stroke=\"#bbbbbb\">"),
     }
 }
 
-fn print_slot(placing: Placing) {
+fn print_slot(rt: &impl Print, placing: Placing) -> io::Result<()> {
     match placing {
         Placing::At(label, _) => {
-            print(b": slot ");
-            print_number(label);
+            print(rt, b": slot ")?;
+            print_number(rt, label)
         }
-        _ => print(b": closed"),
+        _ => print(rt, b": closed"),
     }
 }
 
 // The square of an instant, with its date or its number and its slot as a hint.
-fn print_square(x: u32, y: u32, t: i64, dated: bool, placing: Placing) {
-    print(b"<rect width=\"12\" height=\"12\" x=\"");
-    print_number(x as i64);
-    print(b"\" y=\"");
-    print_number(y as i64);
-    print_fill(placing);
-    print(b"<title>");
+fn print_square(
+    rt: &impl Print,
+    x: u32,
+    y: u32,
+    t: i64,
+    dated: bool,
+    placing: Placing,
+) -> io::Result<()> {
+    print(rt, b"<rect width=\"12\" height=\"12\" x=\"")?;
+    print_number(rt, x as i64)?;
+    print(rt, b"\" y=\"")?;
+    print_number(rt, y as i64)?;
+    print_fill(rt, placing)?;
+    print(rt, b"<title>")?;
     if dated {
-        print_date(t);
+        print_date(rt, t)?;
     } else {
-        print_number(t);
+        print_number(rt, t)?;
     }
-    print_slot(placing);
-    print(b"</title></rect>\n");
+    print_slot(rt, placing)?;
+    print(rt, b"</title></rect>\n")
 }
 
-fn print_text(x: u32, y: u32) {
-    print(b"<text x=\"");
-    print_number(x as i64);
-    print(b"\" y=\"");
-    print_number(y as i64);
-    print(b"\">");
+fn print_text(rt: &impl Print, x: u32, y: u32) -> io::Result<()> {
+    print(rt, b"<text x=\"")?;
+    print_number(rt, x as i64)?;
+    print(rt, b"\" y=\"")?;
+    print_number(rt, y as i64)?;
+    print(rt, b"\">")
 }
 
 // Begins a picture of so many lines.
-fn print_head(lines: u32) {
-    print(b"<svg xmlns=\"http://www.w3.org/2000/svg\" width=\"640\" height=\"");
+fn print_head(rt: &impl Print, lines: u32) -> io::Result<()> {
+    print(
+        rt,
+        b"<svg xmlns=\"http://www.w3.org/2000/svg\" width=\"640\" height=\"",
+    )?;
     if lines < 100 {
-        print_number((lines * 16 + 48) as i64);
+        print_number(rt, (lines * 16 + 48) as i64)?;
     }
-    print(b"\" font-family=\"sans-serif\" font-size=\"11\" stroke-width=\"0.5\">\n");
+    print(
+        rt,
+        b"\" font-family=\"sans-serif\" font-size=\"11\" stroke-width=\"0.5\">\n",
+    )
 }
 
-fn print_title(entry: i64, period: i64) {
-    print_text(8, 20);
-    print(b"entry ");
-    print_number(entry);
-    print(b", period ");
-    print_number(period);
-    print(b", ");
+fn print_title(rt: &impl Print, entry: i64, period: i64) -> io::Result<()> {
+    print_text(rt, 8, 20)?;
+    print(rt, b"entry ")?;
+    print_number(rt, entry)?;
+    print(rt, b", period ")?;
+    print_number(rt, period)?;
+    print(rt, b", ")
 }
 
 // The day in place i of a month's line.
-fn print_day(m: Month, line: u32, i: u32, cells: &[i32], period: i64, distance: i64) {
+fn print_day(
+    rt: &impl Print,
+    m: Month,
+    line: u32,
+    i: u32,
+    cells: &[i32],
+    period: i64,
+    distance: i64,
+) -> io::Result<()> {
     let day = year::day_at(m, i);
     if day == 0 {
-        return;
+        return Ok(());
     }
     if PLACES <= i {
-        return;
+        return Ok(());
     }
     if 12 < line {
-        return;
+        return Ok(());
     }
     let t = year::instant_of(m.year, m.month, day);
     print_square(
+        rt,
         88 + i * 14,
         24 + line * 16,
         t,
         true,
         questions::up_instant(t, cells, period, distance),
-    );
+    )
 }
 
-fn print_days(m: Month, line: u32, cells: &[i32], period: i64, distance: i64) {
+fn print_days(
+    rt: &impl Print,
+    m: Month,
+    line: u32,
+    cells: &[i32],
+    period: i64,
+    distance: i64,
+) -> io::Result<()> {
     for i in 0..PLACES {
-        print_day(m, line, i, cells, period, distance);
+        print_day(rt, m, line, i, cells, period, distance)?;
     }
+    Ok(())
 }
 
-fn print_line(year: i64, line: u32, cells: &[i32], period: i64, distance: i64) {
+fn print_line(
+    rt: &impl Print,
+    year: i64,
+    line: u32,
+    cells: &[i32],
+    period: i64,
+    distance: i64,
+) -> io::Result<()> {
     let month = line as i64;
     let m = year::month_from(year, month, year::instant_of(year, month, 1));
     if line <= 12 {
-        print_text(8, 34 + line * 16);
-        year::print_name(month);
-        print(b"</text>\n");
+        print_text(rt, 8, 34 + line * 16)?;
+        year::print_name(rt, month)?;
+        print(rt, b"</text>\n")?;
     }
-    print_days(m, line, cells, period, distance);
+    print_days(rt, m, line, cells, period, distance)
 }
 
-fn print_lines(year: i64, cells: &[i32], period: i64, distance: i64) {
+fn print_lines(
+    rt: &impl Print,
+    year: i64,
+    cells: &[i32],
+    period: i64,
+    distance: i64,
+) -> io::Result<()> {
     for line in 1..13 {
-        print_line(year, line, cells, period, distance);
+        print_line(rt, year, line, cells, period, distance)?;
     }
+    Ok(())
 }
 
-fn print_year(year: i64, row: Row, cells: &[i32], period: i64, distance: i64) {
-    print_head(13);
-    print_title(row.entry, period);
-    print_number(year);
-    print(b": ");
+fn print_year(
+    rt: &impl Print,
+    year: i64,
+    row: Row,
+    cells: &[i32],
+    period: i64,
+    distance: i64,
+) -> io::Result<()> {
+    print_head(rt, 13)?;
+    print_title(rt, row.entry, period)?;
+    print_number(rt, year)?;
+    print(rt, b": ")?;
     let first = year::instant_of(year, 1, 1);
     let last = year::instant_of(year, 12, 31);
     print_share(
+        rt,
         year::open_days(first, last, cells, period, distance),
         year::year_length(year),
-    );
-    print(b"</text>\n");
-    print_lines(year, cells, period, distance);
-    print(b"</svg>\n");
+    )?;
+    print(rt, b"</text>\n")?;
+    print_lines(rt, year, cells, period, distance)?;
+    print(rt, b"</svg>\n")
 }
 
 // The year, where all of it is within the limits.
-fn print_asked(year: i64, row: Row, pool: &[i32]) {
+fn print_asked(rt: &(impl Print + Eprint), year: i64, row: Row, pool: &[i32]) -> io::Result<()> {
     let instant = year::first_of(year, 1, 12, 31);
     match instant {
         Instant::At(_) => print_year(
+            rt,
             year,
             row,
             cells_of(pool, row),
             row.period as i64,
             row.distance as i64,
         ),
-        Instant::Refused(refusal) => refusals::tell(refusal.number()),
+        Instant::Refused(refusal) => {
+            refusals::tell(rt, refusal.number());
+            Ok(())
+        }
     }
 }
 
-fn print_instant(i: u32, cells: &[i32], period: i64, distance: i64) {
+fn print_instant(
+    rt: &impl Print,
+    i: u32,
+    cells: &[i32],
+    period: i64,
+    distance: i64,
+) -> io::Result<()> {
     let t = i as i64;
     print_square(
+        rt,
         88 + i % LINE * 14,
         40 + i / LINE * 16,
         t,
         false,
         questions::up_instant(t, cells, period, distance),
-    );
+    )
 }
 
-fn print_instants(n: u32, cells: &[i32], period: i64, distance: i64) {
+fn print_instants(
+    rt: &impl Print,
+    n: u32,
+    cells: &[i32],
+    period: i64,
+    distance: i64,
+) -> io::Result<()> {
     for i in 0..n {
-        print_instant(i, cells, period, distance);
+        print_instant(rt, i, cells, period, distance)?;
     }
+    Ok(())
 }
 
-fn print_period(row: Row, cells: &[i32], period: i64, distance: i64) {
+fn print_period(
+    rt: &impl Print,
+    row: Row,
+    cells: &[i32],
+    period: i64,
+    distance: i64,
+) -> io::Result<()> {
     let n = if row.period < DRAWN {
         row.period
     } else {
         DRAWN
     };
-    print_head(n / LINE + 1);
-    print_title(row.entry, period);
+    print_head(rt, n / LINE + 1)?;
+    print_title(rt, row.entry, period)?;
     let last = row.period as i64;
     print_share(
+        rt,
         year::open_days(1, last, cells, period, distance),
         row.period as u64,
-    );
-    print(b"</text>\n");
-    print_instants(n, cells, period, distance);
-    print(b"</svg>\n");
+    )?;
+    print(rt, b"</text>\n")?;
+    print_instants(rt, n, cells, period, distance)?;
+    print(rt, b"</svg>\n")
 }
 
-pub fn run(headings: &[u32], pool: &[i32]) {
-    let Entry::Is(row) = arguments::entry_at(2, headings) else {
-        return;
+pub fn run(rt: &(impl Env + Print + Eprint), headings: &[u32], pool: &[i32]) -> io::Result<()> {
+    let Entry::Is(row) = arguments::entry_at(rt, 2, headings) else {
+        return Ok(());
     };
-    if !arguments::given(3) {
+    if !arguments::given(rt, 3) {
         print_period(
+            rt,
             row,
             cells_of(pool, row),
             row.period as i64,
             row.distance as i64,
-        );
-        return;
+        )?;
+        return Ok(());
     }
-    let Number::Is(year) = arguments::number_at(3) else {
-        return;
+    let Number::Is(year) = arguments::number_at(rt, 3) else {
+        return Ok(());
     };
-    print_asked(year, row, pool);
+    print_asked(rt, year, row, pool)
 }

@@ -2,6 +2,7 @@
 
 use dates::Dated;
 use printing::{print, print_number};
+use std::io;
 
 fn first_bytes<'a>(s: &'a [u8], n: usize) -> &'a [u8] {
     let from = 0;
@@ -9,86 +10,85 @@ fn first_bytes<'a>(s: &'a [u8], n: usize) -> &'a [u8] {
 }
 
 // At most 24 blanks.
-pub fn print_blanks(n: usize) {
-    print(first_bytes(b"                        ", n));
+pub fn print_blanks(rt: &impl Print, n: usize) -> io::Result<()> {
+    print(rt, first_bytes(b"                        ", n))
 }
 
 // How many bytes a number takes.
 pub fn width_of(v: i64) -> usize {
-    let mut text = [0u8; 20];
-    let n = io::decimal(printing::magnitude(v), &mut text);
-    if 0 <= v {
-        return n;
-    }
-    if n < 20 { n + 1 } else { n }
+    let digits = match printing::magnitude(v).checked_ilog10() {
+        Some(power) => power as usize + 1,
+        None => 1,
+    };
+    if v < 0 { digits + 1 } else { digits }
 }
 
 // A number that ends so many bytes behind.
-pub fn print_right(v: i64, width: usize) {
+pub fn print_right(rt: &impl Print, v: i64, width: usize) -> io::Result<()> {
     let n = width_of(v);
     if n < width {
-        print_blanks(width - n);
+        print_blanks(rt, width - n)?;
     }
-    print_number(v);
+    print_number(rt, v)
 }
 
 // A month or a day, by two digits.
-fn print_two(n: u32) {
+fn print_two(rt: &impl Print, n: u32) -> io::Result<()> {
     if n < 10 {
-        print(b"0");
+        print(rt, b"0")?;
     }
-    print_number(n as i64);
+    print_number(rt, n as i64)
 }
 
 // A year by four digits or more.
-fn print_year(year: i64) {
+fn print_year(rt: &impl Print, year: i64) -> io::Result<()> {
     if 0 <= year && year < 10 {
-        print(b"000");
+        print(rt, b"000")?;
     } else if 10 <= year && year < 100 {
-        print(b"00");
+        print(rt, b"00")?;
     } else if 100 <= year && year < 1000 {
-        print(b"0");
+        print(rt, b"0")?;
     }
-    print_number(year);
+    print_number(rt, year)
 }
 
 // The date of an instant; the instant itself where it has none.
-pub fn print_date(t: i64) {
+pub fn print_date(rt: &impl Print, t: i64) -> io::Result<()> {
     let dated = dates::date_of(t);
     match dated {
         Dated::On(date) => {
-            print_year(date.year);
-            print(b"-");
-            print_two(date.month);
-            print(b"-");
-            print_two(date.day);
+            print_year(rt, date.year)?;
+            print(rt, b"-")?;
+            print_two(rt, date.month)?;
+            print(rt, b"-")?;
+            print_two(rt, date.day)
         }
-        Dated::Refused(_) => print_number(t),
+        Dated::Refused(_) => print_number(rt, t),
     }
 }
 
 // An instant, with its date where dates are asked for.
-pub fn print_when(t: i64, dated: bool) {
+pub fn print_when(rt: &impl Print, t: i64, dated: bool) -> io::Result<()> {
     if dated {
-        print_date(t);
-        print(b" (day ");
-        print_number(t);
-        print(b")");
+        print_date(rt, t)?;
+        print(rt, b" (day ")?;
+        print_number(rt, t)?;
+        print(rt, b")")
     } else {
-        print_number(t);
+        print_number(rt, t)
     }
 }
 
 // The four digits behind the point.
-fn print_four(n: u64) {
+fn print_four(rt: &impl Print, n: u64) -> io::Result<()> {
     if n < 10 {
-        print(b"000");
+        print(rt, b"000")?;
     } else if n < 100 {
-        print(b"00");
+        print(rt, b"00")?;
     } else if n < 1000 {
-        print(b"0");
+        print(rt, b"0")?;
     }
-    io::print_decimal(1, n);
+    rt.print(n)
 }
 
 // n / d in parts of 10,000, rounded; 0 for numbers that no row has.
@@ -106,14 +106,14 @@ fn share_of(n: u64, d: u64) -> u64 {
 }
 
 // n of d, and their quotient, rounded to four digits.
-pub fn print_share(n: u64, d: u64) {
-    print(b"open ");
-    io::print_decimal(1, n);
-    print(b" of ");
-    io::print_decimal(1, d);
-    print(b" days, ");
+pub fn print_share(rt: &impl Print, n: u64, d: u64) -> io::Result<()> {
+    print(rt, b"open ")?;
+    rt.print(n)?;
+    print(rt, b" of ")?;
+    rt.print(d)?;
+    print(rt, b" days, ")?;
     let share = share_of(n, d);
-    io::print_decimal(1, share / 10000);
-    print(b".");
-    print_four(share % 10000);
+    rt.print(share / 10000)?;
+    print(rt, b".")?;
+    print_four(rt, share % 10000)
 }

@@ -4,6 +4,7 @@ use crate::arguments::natural;
 use dates::Instant;
 use open_map::OpenNumber;
 use printing::print;
+use std::io;
 
 // A month whose first day stands in the column `first`, Monday being 0, and that has `last` days.
 #[derive(Clone, Copy)]
@@ -116,19 +117,19 @@ pub fn open_days(first: i64, last: i64, cells: &[i32], period: i64, distance: i6
 }
 
 // The name of a month.
-pub fn print_name(month: i64) {
+pub fn print_name(rt: &impl Print, month: i64) -> io::Result<()> {
     match month {
-        1 => print(b"January"),
-        2 => print(b"February"),
-        3 => print(b"March"),
-        4 => print(b"April"),
-        5 => print(b"May"),
-        6 => print(b"June"),
-        7 => print(b"July"),
-        8 => print(b"August"),
-        9 => print(b"September"),
-        10 => print(b"October"),
-        11 => print(b"November"),
-        _ => print(b"December"),
+        1 => print(rt, b"January"),
+        2 => print(rt, b"February"),
+        3 => print(rt, b"March"),
+        4 => print(rt, b"April"),
+        5 => print(rt, b"May"),
+        6 => print(rt, b"June"),
+        7 => print(rt, b"July"),
+        8 => print(rt, b"August"),
+        9 => print(rt, b"September"),
+        10 => print(rt, b"October"),
+        11 => print(rt, b"November"),
+        _ => print(rt, b"December"),
     }
 }

@@ -3,9 +3,10 @@
 #![tactic(auto)]
 
 use calendar::Calendar;
+use std::io;
 
-pub fn print(text: &[u8]) {
-    io::write_all(1, text);
+pub fn print(rt: &impl Print, text: &[u8]) -> io::Result<()> {
+    rt.write_all(text)
 }
 
 // |v|. Of a negative v, -1 - v fits where -v may not.
@@ -14,15 +15,15 @@ pub fn magnitude(v: i64) -> u64 {
 }
 
 // v in decimal.
-pub fn print_number(v: i64) {
+pub fn print_number(rt: &impl Print, v: i64) -> io::Result<()> {
     if v < 0 {
-        print(b"-");
+        print(rt, b"-")?;
     }
-    io::print_decimal(1, magnitude(v));
+    rt.print(magnitude(v))
 }
 
-pub fn print_count(n: usize) {
-    io::print_decimal(1, n as u64);
+pub fn print_count(rt: &impl Print, n: usize) -> io::Result<()> {
+    rt.print(n)
 }
 
 pub fn moved(label: i32, down: u32, up: u32) -> i64 {
@@ -30,31 +31,32 @@ pub fn moved(label: i32, down: u32, up: u32) -> i64 {
 }
 
 // A cell of a row, with its label moved down and up; "." for no label.
-fn print_cell(cell: i32, down: u32, up: u32) {
+fn print_cell(rt: &impl Print, cell: i32, down: u32, up: u32) -> io::Result<()> {
     if cell == Calendar::EMPTY {
-        print(b".");
+        print(rt, b".")
     } else {
-        print_number(moved(cell, down, up));
+        print_number(rt, moved(cell, down, up))
     }
 }
 
 // The first n cells, with each label moved down and up.
-pub fn print_turn(cells: &[i32], n: usize, down: u32, up: u32) {
+pub fn print_turn(rt: &impl Print, cells: &[i32], n: usize, down: u32, up: u32) -> io::Result<()> {
     let mut i = 0;
     while i < n {
         if i < cells.len() {
-            print(b" ");
-            print_cell(cells[i], down, up);
+            print(rt, b" ")?;
+            print_cell(rt, cells[i], down, up)?;
         }
         i += 1;
     }
+    Ok(())
 }
 
 // The number of a refusal, and the entry that it is for.
-pub fn print_refusal(number: u32, entry: u32) {
-    print(b"refused ");
-    io::print_decimal(1, number as u64);
-    print(b" at ");
-    io::print_decimal(1, entry as u64);
-    print(b"\n");
+pub fn print_refusal(rt: &impl Print, number: u32, entry: u32) -> io::Result<()> {
+    print(rt, b"refused ")?;
+    rt.print(number)?;
+    print(rt, b" at ")?;
+    rt.print(entry)?;
+    print(rt, b"\n")
 }

@@ -1,12 +1,14 @@
 // A finished sheet that somebody else sent, checked against a table: its lines are laid as rows and headings.
 
 use calendar::Calendar;
-use io::write_all;
-use libc::STDERR_FILENO;
 use planner::arguments::{digits, digits_behind, signed};
 use planner::refusals;
 use printing::print;
 use sheet_text::SHEET_LIMIT;
+use std::fs::{File, Files};
+use std::io;
+use std::io::Read;
+use std::rt::Runtime;
 use verdicts::Verdict;
 
 // How many cells the rows of a sheet take at most, how many entries a table has, and four numbers for each.
@@ -254,50 +256,71 @@ fn lay_sheet(s: &[u8], headings: &mut [u32], pool: &mut [i32]) -> bool {
     s.len() <= at
 }
 
-fn print_verdict(verdict: Verdict) {
+fn print_verdict(rt: &(impl Print + Eprint), verdict: Verdict) -> io::Result<()> {
     match verdict {
-        Verdict::Accepted => print(b"accepted\n"),
+        Verdict::Accepted => print(rt, b"accepted\n"),
         Verdict::Wrong(entry) => {
-            print(b"wrong at ");
-            io::print_decimal(1, entry as u64);
-            print(b"\n");
+            print(rt, b"wrong at ")?;
+            rt.print(entry)?;
+            print(rt, b"\n")
         }
-        Verdict::Refused(number, entry) => refusals::tell_at(number, entry),
+        Verdict::Refused(number, entry) => {
+            refusals::tell_at(rt, number, entry);
+            Ok(())
+        }
     }
 }
 
-fn check_sheet(table: &[i32], sheet: &[u8]) {
+// What is told of a sheet with a line that is no row.
+const NO_ROW: &str = "slots: the sheet has a line that is no row; give what slots rows prints\n";
+
+fn check_sheet(rt: &(impl Print + Eprint), table: &[i32], sheet: &[u8]) -> io::Result<()> {
     let mut headings = [0u32; HEADINGS];
     let mut pool = [Calendar::EMPTY; POOL];
     if lay_sheet(sheet, &mut headings, &mut pool) {
-        print_verdict(checking::check(table, &headings, &pool));
+        print_verdict(rt, checking::check(table, &headings, &pool))
     } else {
-        write_all(
-            STDERR_FILENO,
-            b"slots: the sheet has a line that is no row; give what slots rows prints\n",
-        );
+        let _ = rt.eprint(NO_ROW);
+        Ok(())
+    }
+}
+
+// Checks the sheet in a file that was opened.
+fn check_opened(
+    rt: &(impl Print + Eprint + Alloc),
+    table: &[i32],
+    path: &str,
+    file: &mut impl Read,
+) -> io::Result<()> {
+    let mut sheet = [0u8; SHEET_LIMIT + 1];
+    match programs::fill(file, &mut sheet) {
+        Ok(n) => check_sheet(rt, table, &sheet[..n]),
+        Err(error) => {
+            programs::tell_failure(rt, path, error);
+            Ok(())
+        }
     }
 }
 
 // Checks the sheet in a file.
-fn check_file(table: &[i32], path: &[u8]) {
-    let fd = os::open_read(path);
-    if fd < 0 {
-        os::fail(path);
-        return;
+fn check_file(
+    rt: &(impl Files + Print + Eprint + Alloc),
+    table: &[i32],
+    path: &str,
+) -> io::Result<()> {
+    match File::open(rt, path) {
+        Ok(mut file) => check_opened(rt, table, path, &mut file),
+        Err(error) => {
+            programs::tell_failure(rt, path, error);
+            Ok(())
+        }
     }
-    let mut sheet = [0u8; SHEET_LIMIT + 1];
-    let n = io::read_full(fd, &mut sheet);
-    libc::close(fd);
-    check_sheet(table, &sheet[..n]);
 }
 
-pub(crate) fn run(table: &[i32]) {
-    let mut path = io::buffer();
-    let n = os::arg(2, &mut path);
-    if os::errno() != 0 {
-        os::fail(b"SHEET");
-        return;
+pub(crate) fn run(rt: &impl Runtime, table: &[i32]) -> io::Result<()> {
+    let mut name = [0u8; programs::PATH_LIMIT];
+    match programs::path_at(rt, 2, "SHEET", &mut name) {
+        Some(path) => check_file(rt, table, path),
+        None => Ok(()),
     }
-    check_file(table, &path[..n]);
 }

@@ -4,8 +4,10 @@
 
 #![tactic(auto)]
 
-use libc::{STDERR_FILENO, STDIN_FILENO, STDOUT_FILENO};
 use planner::{arguments, refusals};
+use std::env::FillError;
+use std::io;
+use std::rt::{Env, Runtime};
 use table_text::TEXT_LIMIT;
 
 mod converted;
@@ -75,43 +77,38 @@ fn question_of(word: &[u8]) -> Command {
     Command::Unknown
 }
 
+// Says on standard error what to do about a refusal; the number 0 is none.
+fn advise(rt: &impl Eprint, number: u32) {
+    if number != 0 {
+        refusals::advise(rt, number);
+    }
+}
+
 // Prints the sheet of standard input. The sheet's text is fixed, so that what to do is told on standard error. One byte
 // more than a text may have is read, so that a longer one is seen.
-fn rows() {
+fn rows(rt: &impl Runtime) -> io::Result<()> {
     let mut text = [0u8; TEXT_LIMIT + 1];
-    let n = io::read_full(STDIN_FILENO, &mut text);
-    let number = sheet::print(&text[..n]);
-    if number != 0 {
-        refusals::advise(number);
-    }
+    let n = programs::fill(&mut rt.reader(), &mut text)?;
+    advise(rt, sheet_printing::print(rt, &text[..n])?);
+    Ok(())
 }
 
 // Appends the table on standard input to the book that argument 2 names.
-fn append() {
-    let mut path = io::buffer();
-    let n = os::arg(2, &mut path);
-    if os::errno() != 0 {
-        os::fail(b"BOOK");
-        return;
+fn append(rt: &impl Runtime) -> io::Result<()> {
+    let mut name = [0u8; programs::PATH_LIMIT];
+    if let Some(path) = programs::path_at(rt, 2, "BOOK", &mut name) {
+        advise(rt, journal_store::append(rt, path)?);
     }
-    let number = journal_file::append(&path[..n]);
-    if number != 0 {
-        refusals::advise(number);
-    }
+    Ok(())
 }
 
 // Prints the sheet of the last table in the book that argument 2 names.
-fn last() {
-    let mut path = io::buffer();
-    let n = os::arg(2, &mut path);
-    if os::errno() != 0 {
-        os::fail(b"BOOK");
-        return;
+fn last(rt: &impl Runtime) -> io::Result<()> {
+    let mut name = [0u8; programs::PATH_LIMIT];
+    if let Some(path) = programs::path_at(rt, 2, "BOOK", &mut name) {
+        advise(rt, journal_store::last(rt, path)?);
     }
-    let number = journal_file::last(&path[..n]);
-    if number != 0 {
-        refusals::advise(number);
-    }
+    Ok(())
 }
 
 // Whether a command takes so many words, the program's own name among them.
@@ -127,28 +124,40 @@ fn takes(command: Command, words: usize) -> bool {
     }
 }
 
-fn run(command: Command) {
+fn run(rt: &impl Runtime, command: Command) -> io::Result<()> {
     match command {
-        Command::Rows => rows(),
-        Command::Append => append(),
-        Command::Last => last(),
-        Command::Nothing => usage::print(STDOUT_FILENO),
-        Command::Unknown => usage::print(STDERR_FILENO),
-        asked => converted::ask(asked),
+        Command::Rows => rows(rt),
+        Command::Append => append(rt),
+        Command::Last => last(rt),
+        Command::Nothing => rt.print(usage::TEXT),
+        Command::Unknown => {
+            tell_usage(rt);
+            Ok(())
+        }
+        asked => converted::ask(rt, asked),
     }
 }
 
-fn main() {
+fn tell_usage(rt: &impl Eprint) {
+    let _ = rt.eprint(usage::TEXT);
+}
+
+// The command that argument 1 names; a word that is too long names none.
+fn command_at(rt: &impl Env) -> Command {
     let mut word = [0u8; 16];
-    let n = os::arg(1, &mut word);
-    if os::errno() == libc::ENAMETOOLONG {
-        usage::print(STDERR_FILENO);
-        return;
+    match rt.arg(1, &mut word) {
+        Ok(n) => command_of(&word[..n]),
+        Err(FillError::NotPresent) => Command::Nothing,
+        Err(FillError::TooLong) => Command::Unknown,
     }
-    let command = command_of(&word[..n]);
-    if takes(command, os::arg_count()) {
-        run(command);
+}
+
+fn main(rt: HostRuntime) -> io::Result<()> {
+    let command = command_at(&rt);
+    if takes(command, programs::argument_count(&rt, 7)) {
+        run(&rt, command)
     } else {
-        usage::print(STDERR_FILENO);
+        tell_usage(&rt);
+        Ok(())
     }
 }

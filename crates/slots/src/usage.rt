@@ -1,9 +1,8 @@
 // What the program is called with.
 
-// Writes the usage.
-pub(crate) fn print(fd: i32) {
-    let text =
-        b"slots rows <TABLE                         the row of each entry: period, distance, cells
+// The usage.
+pub(crate) const TEXT: &str =
+    "slots rows <TABLE                         the row of each entry: period, distance, cells
 slots month YEAR MONTH ENTRY <TABLE       the month as a wall calendar, \".\" for a closed day
 slots up ENTRY WHEN <TABLE                the slot that holds a day, and the place of the day there
 slots up ENTRY LABEL OF <TABLE            the slot of entry OF that holds the slot LABEL of ENTRY
@@ -20,5 +19,3 @@ slots check SHEET <TABLE                  whether the file SHEET has the table's
 TABLE has six numbers a line for each entry; entries are counted from 0. WHEN, FROM and TO are dates such as
 2026-11-16, or instants: day 1 is 2001-01-01.
 ";
-    io::write_all(fd, text);
-}

@@ -5,6 +5,7 @@
 
 use conversion::{Conversion, HEADING_LENGTH};
 use printing::{print, print_turn};
+use std::io;
 
 // Kind, first, second, x, y and z of each entry.
 const ENTRIES: [[i32; 6]; 15] = [
@@ -42,76 +43,115 @@ fn table() -> [i32; 90] {
 }
 
 // Three turns of the row of a heading.
-fn print_turns(start: u32, period: u32, distance: u32, pool: &[i32]) {
+fn print_turns(
+    rt: &impl Print,
+    start: u32,
+    period: u32,
+    distance: u32,
+    pool: &[i32],
+) -> io::Result<()> {
     let from = start as usize;
     if pool.len() < from {
-        return;
+        return Ok(());
     }
     let cells = &pool[from..];
     let n = period as usize;
-    print_turn(cells, n, distance, 0);
-    print(b" |");
-    print_turn(cells, n, 0, 0);
-    print(b" |");
-    print_turn(cells, n, 0, distance);
+    print_turn(rt, cells, n, distance, 0)?;
+    print(rt, b" |")?;
+    print_turn(rt, cells, n, 0, 0)?;
+    print(rt, b" |")?;
+    print_turn(rt, cells, n, 0, distance)
 }
 
-fn print_row(name: &[u8], start: u32, period: u32, distance: u32, granules: u32, pool: &[i32]) {
-    print(name);
-    print(b": period ");
-    io::print_decimal(1, period as u64);
-    print(b", distance ");
-    io::print_decimal(1, distance as u64);
-    print(b", slots ");
-    io::print_decimal(1, granules as u64);
-    print(b"\n   ");
-    print_turns(start, period, distance, pool);
-    print(b"\n");
+fn print_row(
+    rt: &impl Print,
+    name: &[u8],
+    start: u32,
+    period: u32,
+    distance: u32,
+    granules: u32,
+    pool: &[i32],
+) -> io::Result<()> {
+    print(rt, name)?;
+    print(rt, b": period ")?;
+    rt.print(period)?;
+    print(rt, b", distance ")?;
+    rt.print(distance)?;
+    print(rt, b", slots ")?;
+    rt.print(granules)?;
+    print(rt, b"\n   ")?;
+    print_turns(rt, start, period, distance, pool)?;
+    print(rt, b"\n")
 }
 
 // The row of the entry k.
-fn print_entry(name: &[u8], k: usize, headings: &[u32], pool: &[i32]) {
+fn print_entry(
+    rt: &impl Print,
+    name: &[u8],
+    k: usize,
+    headings: &[u32],
+    pool: &[i32],
+) -> io::Result<()> {
     if k < headings.len() / HEADING_LENGTH {
         let at = k * HEADING_LENGTH;
         print_row(
+            rt,
             name,
             headings[at],
             headings[at + 1],
             headings[at + 2],
             headings[at + 3],
             pool,
-        );
+        )?;
     }
+    Ok(())
 }
 
-fn print_rows(headings: &[u32], pool: &[i32]) {
-    print_entry(b"W = group 7 of bottom", 1, headings, pool);
-    print_entry(b"B = select-down x=1 y=5 of bottom by W", 2, headings, pool);
-    print_entry(b"C = renumber B at 1", 3, headings, pool);
-    print_entry(b"renumber B at 6", 4, headings, pool);
-    print_entry(b"group 5 of C", 5, headings, pool);
-    print_entry(b"group 3 of C", 6, headings, pool);
-    print_entry(b"odd days", 8, headings, pool);
-    print_entry(b"even days", 9, headings, pool);
-    print_entry(b"union of odd days and even days", 10, headings, pool);
-    print_entry(b"alter bottom, group 2, x=3 y=2 z=1", 11, headings, pool);
-    print_entry(b"combine W with group 2", 12, headings, pool);
-    print_entry(b"anchor of bottom by odd days", 13, headings, pool);
-    print_entry(b"bottom - B", 14, headings, pool);
+fn print_rows(rt: &impl Print, headings: &[u32], pool: &[i32]) -> io::Result<()> {
+    print_entry(rt, b"W = group 7 of bottom", 1, headings, pool)?;
+    print_entry(
+        rt,
+        b"B = select-down x=1 y=5 of bottom by W",
+        2,
+        headings,
+        pool,
+    )?;
+    print_entry(rt, b"C = renumber B at 1", 3, headings, pool)?;
+    print_entry(rt, b"renumber B at 6", 4, headings, pool)?;
+    print_entry(rt, b"group 5 of C", 5, headings, pool)?;
+    print_entry(rt, b"group 3 of C", 6, headings, pool)?;
+    print_entry(rt, b"odd days", 8, headings, pool)?;
+    print_entry(rt, b"even days", 9, headings, pool)?;
+    print_entry(rt, b"union of odd days and even days", 10, headings, pool)?;
+    print_entry(
+        rt,
+        b"alter bottom, group 2, x=3 y=2 z=1",
+        11,
+        headings,
+        pool,
+    )?;
+    print_entry(rt, b"combine W with group 2", 12, headings, pool)?;
+    print_entry(rt, b"anchor of bottom by odd days", 13, headings, pool)?;
+    print_entry(rt, b"bottom - B", 14, headings, pool)
 }
 
 // Converts the table and prints what comes of it.
-fn print_table(table: &[i32], headings: &mut [u32], pool: &mut [i32]) {
+fn print_table(
+    rt: &impl Print,
+    table: &[i32],
+    headings: &mut [u32],
+    pool: &mut [i32],
+) -> io::Result<()> {
     let converted = conversion::convert(table, &mut *headings, &mut *pool);
     match converted {
-        Conversion::Refused(_, _) => print(b"refused\n"),
-        Conversion::Converted => print_rows(&headings[..], &pool[..]),
+        Conversion::Refused(_, _) => print(rt, b"refused\n"),
+        Conversion::Converted => print_rows(rt, &headings[..], &pool[..]),
     }
 }
 
-fn main() {
+fn main(rt: HostRuntime) -> io::Result<()> {
     let numbers = table();
     let mut headings = [0u32; HEADING_LENGTH * 15];
     let mut pool = [0i32; 128];
-    print_table(&numbers, &mut headings, &mut pool);
+    print_table(&rt, &numbers, &mut headings, &mut pool)
 }

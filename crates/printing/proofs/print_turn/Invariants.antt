@@ -9,4 +9,3 @@ invariant-loop cells n down up i₀ t6 i = i ≤ n
 
 abbrev pub decreases-loop-i : goal.decreases-loop-i
 decreases-loop cells n down up i₀ t6 i = n - i
-

@@ -10,4 +10,3 @@ invariant-loop-at l = (l.start ≤ length l.numbers) × (l.at ≤ length l.sizes
 
 abbrev pub decreases-loop-at : goal.decreases-loop-at
 decreases-loop-at l = length l.sizes - l.at
-

@@ -10,4 +10,3 @@ invariant-loop-at l = l.at ≤ length l.headings
 
 abbrev pub decreases-loop-at : goal.decreases-loop-at
 decreases-loop-at l = length l.headings - l.at
-

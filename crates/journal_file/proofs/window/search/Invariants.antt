@@ -12,4 +12,3 @@ invariant-loop-start l = l.end < 2 ^ 63
 
 abbrev pub decreases-loop-start : goal.decreases-loop-start
 decreases-loop-start l = l.end
-

@@ -10,4 +10,3 @@ invariant-loop-i l = l.from ≤ l.i
 
 abbrev pub decreases-loop-i : goal.decreases-loop-i
 decreases-loop-i l = length l.s - l.i
-

@@ -10,4 +10,3 @@ invariant-loop-i l = l.i ≤ length l.word
 
 abbrev pub decreases-loop-i : goal.decreases-loop-i
 decreases-loop-i l = length l.word - l.i
-

@@ -9,4 +9,3 @@ invariant-loop parts n i₀ t4 t5 i = i ≤ n
 
 abbrev pub decreases-loop-i : goal.decreases-loop-i
 decreases-loop parts n i₀ t4 t5 i = n - i
-

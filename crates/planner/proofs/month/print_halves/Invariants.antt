@@ -9,4 +9,3 @@ invariant-loop-j l = l.j ≤ 84
 
 abbrev pub decreases-loop-j : goal.decreases-loop-j
 decreases-loop-j l = 84 - l.j
-

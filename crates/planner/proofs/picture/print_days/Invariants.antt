@@ -9,4 +9,3 @@ invariant-loop-i l = l.i ≤ 37
 
 abbrev pub decreases-loop-i : goal.decreases-loop-i
 decreases-loop-i l = 37 - l.i
-

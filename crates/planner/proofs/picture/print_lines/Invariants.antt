@@ -9,4 +9,3 @@ invariant-loop-line l = l.line ≤ 13
 
 abbrev pub decreases-loop-line : goal.decreases-loop-line
 decreases-loop-line l = 13 - l.line
-

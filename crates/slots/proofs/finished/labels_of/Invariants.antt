@@ -9,4 +9,3 @@ invariant-loop-i l = l.from ≤ l.i
 
 abbrev pub decreases-loop-i : goal.decreases-loop-i
 decreases-loop-i l = l.end - l.i
-

@@ -11,4 +11,3 @@ invariant-loop-at l = (l.from ≤ l.at) × (length l.pool ≡ length l.initial.p
 
 abbrev pub decreases-loop-at : goal.decreases-loop-at
 decreases-loop-at l = length l.s - l.at
-

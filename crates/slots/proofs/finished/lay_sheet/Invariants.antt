@@ -11,4 +11,3 @@ invariant-loop-k l = (l.k ≤ 64) × (length l.headings ≡ length l.initial.hea
 
 abbrev pub decreases-loop-k : goal.decreases-loop-k
 decreases-loop-k l = 64 - l.k
-

@@ -1,9 +1,0 @@
--- `journal_file::input::fill_at` is safe.
--- Assumes nothing.
-use borrow.Author.Rules.{rules}
-use mathlib.Core.Path.{sym}
-use lib.Seq.{length-take-le}
-use Rattle.journal_file.proofs.input.fill_at.Goals as goal
-
-pub slice_bounds-fill-end-2 : goal.slice_bounds-fill-end-2
-slice_bounds-fill-end-2 c = sym (length-take-le _ _ c.requires.1)

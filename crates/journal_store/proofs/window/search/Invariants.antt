@@ -1,0 +1,14 @@
+-- `journal_store::window::search` meets its contract. The next window ends before this one does, so the search ends.
+-- Assumes nothing.
+use borrow.Author.Rules.{rules}
+use mathlib.Core.Path.{subst}
+use Prim.Native.Nat.{◌<◌, ◌^◌}
+use native.Mathlib.Omega.{arith}
+use Rattle.journal_store.specs.Seen.{Seen}
+use Rattle.journal_store.proofs.window.search.Given as goal
+
+abbrev pub invariant-loop-start : goal.invariant-loop-start
+invariant-loop-start l = l.end < 2 ^ 63
+
+abbrev pub decreases-loop-start : goal.decreases-loop-start
+decreases-loop-start l = l.end
