@@ -6,7 +6,7 @@ use borrow.Author.Rules.{rules}
 use Rattle.vectors.proofs.print_cases.Given as goal
 
 abbrev pub invariant-loop-at : goal.invariant-loop-at
-invariant-loop-at l = (l.start ≤ length l.numbers) × (l.at ≤ length l.sizes)
+invariant-loop-at g l = (l.start ≤ length l.numbers) × (l.at ≤ length l.sizes)
 
 abbrev pub decreases-loop-at : goal.decreases-loop-at
-decreases-loop-at l = length l.sizes - l.at
+decreases-loop-at g l = length l.sizes - l.at

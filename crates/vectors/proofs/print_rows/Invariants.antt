@@ -6,7 +6,7 @@ use borrow.Author.Rules.{rules}
 use Rattle.vectors.proofs.print_rows.Given as goal
 
 abbrev pub invariant-loop-at : goal.invariant-loop-at
-invariant-loop-at l = l.at ≤ length l.headings
+invariant-loop-at g l = l.at ≤ length l.headings
 
 abbrev pub decreases-loop-at : goal.decreases-loop-at
-decreases-loop-at l = length l.headings - l.at
+decreases-loop-at g l = length l.headings - l.at

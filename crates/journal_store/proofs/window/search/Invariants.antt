@@ -8,7 +8,7 @@ use Rattle.journal_store.specs.Seen.{Seen}
 use Rattle.journal_store.proofs.window.search.Given as goal
 
 abbrev pub invariant-loop-start : goal.invariant-loop-start
-invariant-loop-start l = l.end < 2 ^ 63
+invariant-loop-start g l = l.end < 2 ^ 63
 
 abbrev pub decreases-loop-start : goal.decreases-loop-start
-decreases-loop-start l = l.end
+decreases-loop-start g l = l.end

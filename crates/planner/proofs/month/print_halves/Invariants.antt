@@ -5,7 +5,7 @@ use Prim.Native.Nat.{◌≤◌, ◌-◌}
 use Rattle.planner.proofs.month.print_halves.Given as goal
 
 abbrev pub invariant-loop-j : goal.invariant-loop-j
-invariant-loop-j l = l.j ≤ 84
+invariant-loop-j g l = l.j ≤ 84
 
 abbrev pub decreases-loop-j : goal.decreases-loop-j
-decreases-loop-j l = 84 - l.j
+decreases-loop-j g l = 84 - l.j

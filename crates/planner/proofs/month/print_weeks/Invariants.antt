@@ -5,7 +5,7 @@ use Prim.Native.Nat.{◌≤◌, ◌-◌}
 use Rattle.planner.proofs.month.print_weeks.Given as goal
 
 abbrev pub invariant-loop-i : goal.invariant-loop-i
-invariant-loop-i l = l.i ≤ 42
+invariant-loop-i g l = l.i ≤ 42
 
 abbrev pub decreases-loop-i : goal.decreases-loop-i
-decreases-loop-i l = 42 - l.i
+decreases-loop-i g l = 42 - l.i

@@ -5,7 +5,7 @@ use Prim.Native.Nat.{◌≤◌, ◌-◌}
 use Rattle.planner.proofs.picture.print_days.Given as goal
 
 abbrev pub invariant-loop-i : goal.invariant-loop-i
-invariant-loop-i l = l.i ≤ 37
+invariant-loop-i g l = l.i ≤ 37
 
 abbrev pub decreases-loop-i : goal.decreases-loop-i
-decreases-loop-i l = 37 - l.i
+decreases-loop-i g l = 37 - l.i
