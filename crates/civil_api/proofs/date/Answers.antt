@@ -15,7 +15,7 @@ use Rattle.civil.specs.Asked.{date_reply}
 use Rattle.dates.specs.Answers.{dated_reply}
 use Rattle.civil_api.specs.Codes.{date_code, date_left}
 use Rattle.civil_api.proofs.date.Goals as goal
-use Rattle.civil_api.proofs.date.Goals.{After-date_of-dated, In-On-2, In-Refused-2}
+use Rattle.civil_api.proofs.date.Goals.{After-date_of-dated}
 
 -- an unsigned number of 32 bits reads back
 reads-back : (n : ℕ) → n < 2 ^ 63 → to_z w64 n ≡ pos n
@@ -26,20 +26,18 @@ replied c = let t = c.ranges.t in simp plain at c.date_of-dated.ensures
 
 pub returns-in-On : goal.returns-in-On
 returns-in-On c =
-    let k = (goal.at.returns-in-On c).In-On-2 in
-    let e = sym (ap dated_reply k.dated-1.given.1) ∙ replied (goal.at.In-On-2 k).After-date_of-dated in
-    let d = k.dated-1.given.0.0 in
+    let e = sym (ap dated_reply c.in-On.is) ∙ replied (goal.at.returns-in-On c).After-date_of-dated in
+    let d = c.in-On.d in
     record {
       code = ap date_code e;
-      year = to_z-of_z (sfits_of c.struct_told-1.given.0.1) ∙ ap (λ (r : Reply Date). (date_left r).year) e;
-      month = reads-back d.month (omega (arith, c.struct_known-1.given)) ∙ ap (λ (r : Reply Date). pos (date_left r).month) e;
-      day = reads-back d.day (omega (arith, c.struct_known-in-On-1.given)) ∙ ap (λ (r : Reply Date). pos (date_left r).day) e;
+      year = to_z-of_z {w = w64} (search rules) ∙ ap (λ (r : Reply Date). (date_left r).year) e;
+      month = reads-back d.month (omega arith) ∙ ap (λ (r : Reply Date). pos (date_left r).month) e;
+      day = reads-back d.day (omega arith) ∙ ap (λ (r : Reply Date). pos (date_left r).day) e;
     }
 
 pub returns-in-Refused : goal.returns-in-Refused
 returns-in-Refused c =
-    let k = (goal.at.returns-in-Refused c).In-Refused-2 in
-    let e = sym (ap dated_reply k.dated-in-Refused-1.given.1) ∙ replied (goal.at.In-Refused-2 k).After-date_of-dated in
+    let e = sym (ap dated_reply c.in-Refused.is) ∙ replied (goal.at.returns-in-Refused c).After-date_of-dated in
     record {
       code = to_z-of_z {w = w64} (sfits_of c.refusal_code.type_inv) ∙ c.refusal_code.ensures ∙ ap date_code e;
       year = ap (λ (r : Reply Date). (date_left r).year) e;

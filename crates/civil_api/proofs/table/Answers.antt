@@ -1,27 +1,23 @@
 -- `civil_api::table` meets its contract. The loop's invariant: the numbers before i are those that are to be left.
 -- Assumes nothing.
-use borrow.Author.Rules.{rules, sfits_of}
-use mathlib.Core.Path.{◌≡◌, sym, ◌∙◌, ap}
+use borrow.Author.Rules.{sfits_of}
+use mathlib.Core.Path.{sym, ◌∙◌, ap}
 use mathlib.Core.Bool.{Bool, cond}
-use Prim.Native.Nat.{◌-◌}
-use native.Mathlib.Omega.{arith}
 use lib.IntN.{pos, negsuc}
 use mir.Facts.{to_z-of_z}
+use mir.Syntax.{w32}
 use borrow.Author.Tests.{le-leb, lt-leb}
-use Rattle.civil_api.proofs.Tables.{Written, written_none, written-more, written_all}
+use Rattle.civil_api.proofs.Tables.{written_none, written-more, written_all}
 use Rattle.civil_api.proofs.table.Goals as goal
 
 pub loop-i-init : goal.loop-i-init
 loop-i-init c = written_none _
 
-pub offset_bounds-list-i : goal.offset_bounds-list-i
-offset_bounds-list-i c = omega (arith, c.loop-i.invariant.whole, c.well-formed.0.1)
-
 pub loop-i-preserved : goal.loop-i-preserved
 loop-i-preserved c =
     let i = c.loop-i.i in
     written-more c.loop-i.invariant c.loop-i-test.true _
-    (to_z-of_z {w = w64} (sfits_of c.number_at.type_inv) ∙ c.number_at.ensures)
+    (to_z-of_z {w = w32} (sfits_of c.number_at.type_inv) ∙ c.number_at.ensures)
 
 pub shape_of-list-then-n-lt66 : goal.shape_of-list-then-n-lt66
 shape_of-list-then-n-lt66 c = c.loop-i.invariant.whole
