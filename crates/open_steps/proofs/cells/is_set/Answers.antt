@@ -1,6 +1,5 @@
 -- `open_steps::cells::is_set` meets its contract: the word shifted down has the cell's bit at its end.
 -- Assumes nothing.
-use borrow.Author.Rules.{rules}
 use mathlib.Core.Path.{ap}
 use Prim.Native.Nat.{ℕ, ◌/◌, ◌%◌, ◌^◌}
 use lib.Dec.{eqb}

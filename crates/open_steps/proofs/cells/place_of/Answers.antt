@@ -2,12 +2,11 @@
 -- at `start + size` more than k.
 -- Assumes nothing.
 use mathlib.Core.Path.{◌≡◌, ap}
-use Prim.Native.Nat.{ℕ, ◌+◌, ◌-◌, ◌/◌, ◌≤◌, ◌<◌}
+use Prim.Native.Nat.{◌+◌, ◌-◌, ◌/◌}
 use native.Mathlib.Omega.{arith}
 use Rattle.words.specs.Bits.{bit, tally}
 use Rattle.words.proofs.Tally.{tally-one}
 use Rattle.words.proofs.Ones.{bit_le}
-use Rattle.open_steps.proofs.cells.place_of.Invariants.{Halved}
 use Rattle.open_steps.proofs.cells.place_of.Goals as goal
 
 pub loop-size-init : goal.loop-size-init

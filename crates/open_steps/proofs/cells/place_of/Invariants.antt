@@ -1,12 +1,8 @@
 -- `open_steps::cells::place_of` meets its contract. The loop's invariant: at `start` at most k set bits are passed,
 -- at `start + size` more than k.
 -- Assumes nothing.
-use mathlib.Core.Path.{◌≡◌, ap}
-use Prim.Native.Nat.{ℕ, ◌+◌, ◌-◌, ◌/◌, ◌≤◌, ◌<◌}
-use native.Mathlib.Omega.{arith}
+use Prim.Native.Nat.{ℕ, ◌+◌, ◌≤◌, ◌<◌}
 use Rattle.words.specs.Bits.{bit, tally}
-use Rattle.words.proofs.Tally.{tally-one}
-use Rattle.words.proofs.Ones.{bit_le}
 use Rattle.open_steps.proofs.cells.place_of.Given as goal
 
 pub record Halved (w k start size : ℕ) : Type 0 where
@@ -20,4 +16,3 @@ invariant-loop-size l = Halved l.w l.k l.start l.size
 
 abbrev pub decreases-loop-size : goal.decreases-loop-size
 decreases-loop-size l = l.size
-

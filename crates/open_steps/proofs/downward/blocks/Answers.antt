@@ -1,9 +1,6 @@
 -- `open_steps::downward::blocks` meets its contract. The loop's invariant: `left` set cells are to be passed before `word`.
 -- Assumes nothing.
-use mathlib.Core.Path.{◌≡◌}
-use Prim.Native.Nat.{◌+◌, ◌*◌, ◌-◌, ◌≤◌}
 use native.Mathlib.Omega.{arith}
-use Rattle.words.specs.Bits.{cell, tally}
 use Rattle.open_steps.proofs.downward.blocks.Goals as goal
 
 pub loop-word-init : goal.loop-word-init

@@ -1,8 +1,7 @@
 -- `open_steps::downward::blocks` meets its contract. The loop's invariant: `left` set cells are to be passed before `word`.
 -- Assumes nothing.
 use mathlib.Core.Path.{◌≡◌}
-use Prim.Native.Nat.{◌+◌, ◌*◌, ◌-◌, ◌≤◌}
-use native.Mathlib.Omega.{arith}
+use Prim.Native.Nat.{◌+◌, ◌*◌, ◌≤◌}
 use Rattle.words.specs.Bits.{cell, tally}
 use Rattle.open_steps.proofs.downward.blocks.Given as goal
 
@@ -11,4 +10,3 @@ invariant-loop-word l = (l.word ≤ l.i) × (tally (cell l.words) (64 * l.i) + l
 
 abbrev pub decreases-loop-word : goal.decreases-loop-word
 decreases-loop-word l = l.word
-

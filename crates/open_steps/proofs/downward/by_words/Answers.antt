@@ -1,9 +1,8 @@
 -- `open_steps::downward::by_words` meets its contract. The loop's invariant: `left` set cells are to be passed before `word`.
 -- Assumes nothing.
 use mathlib.Core.Path.{◌≡◌, ap}
-use Prim.Native.Nat.{ℕ, ◌+◌, ◌*◌, ◌-◌, ◌≤◌, ◌<◌}
+use Prim.Native.Nat.{ℕ, ◌+◌, ◌*◌, ◌-◌, ◌<◌}
 use native.Mathlib.Omega.{arith}
-use borrow.Author.Rules.{rules}
 use Rattle.words.specs.Bits.{bit, cell, tally}
 use Rattle.words.proofs.Tally.{tally-zero}
 use Rattle.bitmaps.proofs.Words.{tally-whole}

@@ -1,15 +1,8 @@
 -- `open_steps::downward::by_words` meets its contract. The loop's invariant: `left` set cells are to be passed before `word`.
 -- Assumes nothing.
-use mathlib.Core.Path.{◌≡◌, ap}
-use Prim.Native.Nat.{ℕ, ◌+◌, ◌*◌, ◌-◌, ◌≤◌, ◌<◌}
-use native.Mathlib.Omega.{arith}
-use borrow.Author.Rules.{rules}
-use Rattle.words.specs.Bits.{bit, cell, tally}
-use Rattle.words.proofs.Tally.{tally-zero}
-use Rattle.bitmaps.proofs.Words.{tally-whole}
-use lib.ListN.{get_or}
-use mathlib.Core.List.{List}
-use Rattle.open_steps.proofs.Selected.{below_in}
+use mathlib.Core.Path.{◌≡◌}
+use Prim.Native.Nat.{◌+◌, ◌*◌, ◌≤◌}
+use Rattle.words.specs.Bits.{cell, tally}
 use Rattle.open_steps.proofs.downward.by_words.Given as goal
 
 abbrev pub invariant-loop-word : goal.invariant-loop-word
@@ -17,4 +10,3 @@ invariant-loop-word l = (l.word ≤ l.i) × (tally (cell l.words) (64 * l.i) + l
 
 abbrev pub decreases-loop-word : goal.decreases-loop-word
 decreases-loop-word l = l.word
-

@@ -3,7 +3,6 @@
 use mathlib.Core.Path.{◌≡◌, ap, subst}
 use Prim.Native.Nat.{ℕ, ◌+◌, ◌*◌, ◌-◌, ◌/◌, ◌%◌}
 use native.Mathlib.Omega.{arith}
-use borrow.Author.Rules.{rules}
 use Rattle.words.specs.Bits.{bit, cell, tally}
 use Rattle.words.proofs.Tally.{tally-mono}
 use Rattle.bitmaps.proofs.Words.{tally-word}

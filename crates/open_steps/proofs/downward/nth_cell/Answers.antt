@@ -2,7 +2,6 @@
 -- Assumes nothing.
 use mathlib.Core.Path.{subst}
 use native.Mathlib.Omega.{arith}
-use borrow.Author.Rules.{rules}
 use Rattle.open_steps.specs.Ranked.{NthBelow}
 use Rattle.open_steps.proofs.downward.nth_cell.Goals as goal
 use Rattle.open_steps.proofs.downward.nth_cell.Goals.{After-nth_below-found, Start}
@@ -11,11 +10,11 @@ pub returns-in-At : goal.returns-in-At
 returns-in-At c =
     let f = (goal.at.returns-in-At c).After-nth_below-found in
     let s = (goal.at.After-nth_below-found f).Start in
-    subst (NthBelow s.args.words.now s.args.c s.args.k) c.found-1.given.1 f.nth_below-found.ensures
+    subst (NthBelow s.args.words.now s.args.c s.args.k) c.in-At.is f.nth_below-found.ensures
 
 pub returns-in-Short : goal.returns-in-Short
 returns-in-Short c =
     let f = (goal.at.returns-in-Short c).After-nth_below-found in
     let s = (goal.at.After-nth_below-found f).Start in
-    let n = subst (NthBelow s.args.words.now s.args.c s.args.k) c.enum_told-1.given.1 f.nth_below-found.ensures in
+    let n = subst (NthBelow s.args.words.now s.args.c s.args.k) c.in-Short.is f.nth_below-found.ensures in
     absurd (omega (arith, n, s.requires.1))

@@ -1,7 +1,6 @@
 -- `open_steps::steps::is_open` meets its contract.
 -- Assumes nothing.
 use mathlib.Core.Path.{◌≡◌, ◌∙◌, ap}
-use borrow.Author.Rules.{rules}
 use lib.Dec.{eqb}
 use Rattle.integers.specs.Parts.{up}
 use Rattle.integers.proofs.Machine.{plain}

@@ -63,7 +63,7 @@ open_from-requires c =
     let n = s.ranges.n in
     let y = behind-fits s in
     let m = less-fits s in
-    record { sound = (simp plain (s.requires.sound, ((limits s).0 ∴ simp ints (omega arith), (limits s).1 ∴ simp ints (omega arith)))).0; within = (simp plain (s.requires.sound, ((limits s).0 ∴ simp ints (omega arith), (limits s).1 ∴ simp ints (omega arith)))).1 }
+    record { sound = simp plain s.requires.sound; within = simp plain ((limits s).0 ∴ simp ints (omega arith), (limits s).1 ∴ simp ints (omega arith)) }
 
 pub returns-then-n-gt0 : goal.returns-then-n-gt0
 returns-then-n-gt0 c =
@@ -82,7 +82,7 @@ open_from-requires-then-n-lt0 c =
     let p = s.ranges.period in
     let x = s.ranges.x in
     let n = s.ranges.n in
-    record { sound = (simp plain (s.requires.sound, ((limits s).0 ∴ simp ints (omega arith), (limits s).1 ∴ simp ints (omega arith)))).0; within = (simp plain (s.requires.sound, ((limits s).0 ∴ simp ints (omega arith), (limits s).1 ∴ simp ints (omega arith)))).1 }
+    record { sound = simp plain s.requires.sound; within = simp plain ((limits s).0 ∴ simp ints (omega arith), (limits s).1 ∴ simp ints (omega arith)) }
 
 pub returns-then-n-lt0 : goal.returns-then-n-lt0
 returns-then-n-lt0 c =

@@ -1,11 +1,11 @@
 -- `open_steps::steps::open_back` meets its contract: in the turn of t, or by whole turns.
 -- Assumes nothing.
 use mathlib.Core.Path.{◌≡◌, refl, ◌∙◌, sym, ap, subst}
-use Prim.Native.Nat.{◌+◌, ◌*◌, ◌-◌}
 use native.Mathlib.Omega.{arith}
-use borrow.Author.Rules.{rules, sfits_of}
+use borrow.Author.Rules.{sfits_of}
 use lib.IntN.{ℤ, pos, negsuc, ◌+ℤ◌, ◌*ℤ◌}
 use mir.Facts.{to_z-of_z}
+use mir.Syntax.{w64}
 use Rattle.integers.specs.Parts.{up}
 use Rattle.integers.proofs.Linear.{ints, ◌∴◌}
 use Rattle.integers.proofs.Machine.{plain}
@@ -50,12 +50,12 @@ nth_below-found-requires c =
 
 -- a cell of this turn
 here : (c : In-At) → let n = (goal.at.In-At c).After-nth_below-found in let a = (goal.at.After-nth_below-found n).After-turn_of-at in let s = (goal.at.After-turn_of-at a).Start in
-    NthBelow s.args.words.now a.turn_of-at.result.cell s.args.k (At c.found-1.given.0.0)
+    NthBelow s.args.words.now a.turn_of-at.result.cell s.args.k (At c.in-At.i)
 here c =
     let n = (goal.at.In-At c).After-nth_below-found in
     let a = (goal.at.After-nth_below-found n).After-turn_of-at in
     let s = (goal.at.After-turn_of-at a).Start in
-    subst (NthBelow s.args.words.now a.turn_of-at.result.cell s.args.k) c.found-1.given.1 n.nth_below-found.ensures
+    subst (NthBelow s.args.words.now a.turn_of-at.result.cell s.args.k) c.in-At.is n.nth_below-found.ensures
 
 pub composed-requires : goal.composed-requires
 composed-requires c =
@@ -63,8 +63,8 @@ composed-requires c =
     let s = (goal.at.After-turn_of-at a).Start in
     let p = s.ranges.period in
     let f = (there a).turn-fits in
-    let i = set_below s.args.period s.args.words.now (known s) c.found-1.given.0.0 (here c).set in
-    record { turning = (simp plain (turning s.args.period s.args.words.now (known s), ((there a).near ∴ simp ints (omega arith), omega (arith, i, (known s).high)))).0; within = (simp plain (turning s.args.period s.args.words.now (known s), ((there a).near ∴ simp ints (omega arith), omega (arith, i, (known s).high)))).1 }
+    let i = set_below s.args.period s.args.words.now (known s) c.in-At.i (here c).set in
+    record { turning = simp plain (turning s.args.period s.args.words.now (known s)); within = simp plain ((there a).near ∴ simp ints (omega arith), omega (arith, i, (known s).high)) }
 
 pub turns_back-requires : goal.turns_back-requires
 turns_back-requires c =
@@ -73,8 +73,8 @@ turns_back-requires c =
     let s = (goal.at.After-turn_of-at a).Start in
     let p = s.ranges.period in
     let f = (there a).turn-fits in
-    let l = subst (NthBelow s.args.words.now a.turn_of-at.result.cell s.args.k) c.found-in-Short-1.given.1 n.nth_below-found.ensures in
-    record { sound = (simp plain (s.requires.sound, (((there a).below, (there a).near), s.requires.within.1, l))).0; near = (simp plain (s.requires.sound, (((there a).below, (there a).near), s.requires.within.1, l))).1 }
+    let l = subst (NthBelow s.args.words.now a.turn_of-at.result.cell s.args.k) c.in-Short.is n.nth_below-found.ensures in
+    record { sound = simp plain s.requires.sound; near = simp plain (((there a).below, (there a).near), s.requires.within.1, l) }
 
 pub returns-in-At : goal.returns-in-At
 returns-in-At c =
@@ -86,7 +86,7 @@ returns-in-At c =
     let g = known s in
     let p = s.ranges.period in
     let f = (there a).turn-fits in
-    let i = d.found-1.given.0.0 in
+    let i = d.in-At.i in
     let e : c.composed.result ≡ s.args.period *ℤ r.turn +ℤ pos i = simp plain at c.composed.ensures in
     let q : pos (set_before (map s) r.cell) +ℤ negsuc s.args.k ≡ pos (tally (cell l) i) = (here d).rank ∴ simp ints (omega arith) in
     subst (OpenFrom (map s) s.args.t (negsuc s.args.k))

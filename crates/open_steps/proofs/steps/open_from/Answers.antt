@@ -60,7 +60,7 @@ open_back-requires c =
     let t = s.ranges.t in
     let k = s.ranges.k in
     let z = between-fits s in
-    record { sound = (simp plain (s.requires.sound, (s.requires.within.0, small (between s) (below c) (near s)))).0; within = (simp plain (s.requires.sound, (s.requires.within.0, small (between s) (below c) (near s)))).1 }
+    record { sound = simp plain s.requires.sound; within = simp plain (s.requires.within.0, small (between s) (below c) (near s)) }
 
 -- ---- on: k of them
 above : (c : Else-k-lt0) → pos 0 ≤ℤ c.args.k
@@ -78,7 +78,7 @@ open_on-requires c =
     let p = s.ranges.period in
     let t = s.ranges.t in
     let k = s.ranges.k in
-    record { sound = (simp plain (s.requires.sound, (s.requires.within.0, small s.args.k (above c) (s.requires.within.1 ∴ simp ints (omega arith))))).0; within = (simp plain (s.requires.sound, (s.requires.within.0, small s.args.k (above c) (s.requires.within.1 ∴ simp ints (omega arith))))).1 }
+    record { sound = simp plain s.requires.sound; within = simp plain (s.requires.within.0, small s.args.k (above c) (s.requires.within.1 ∴ simp ints (omega arith))) }
 
 -- the numbers of open instants that are passed stand for k
 back_is : (k z : ℤ) (n : ℕ) → z ≡ negsuc 0 -ℤ k → pos n ≡ z → negsuc n ≡ k

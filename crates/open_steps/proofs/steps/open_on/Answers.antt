@@ -1,11 +1,12 @@
 -- `open_steps::steps::open_on` meets its contract: in the turn of t, or by whole turns.
 -- Assumes nothing.
 use mathlib.Core.Path.{◌≡◌, ◌∙◌, sym, ap, subst}
-use Prim.Native.Nat.{◌+◌, ◌*◌, ◌-◌}
+use Prim.Native.Nat.{◌+◌}
 use native.Mathlib.Omega.{arith}
-use borrow.Author.Rules.{rules, sfits_of}
+use borrow.Author.Rules.{sfits_of}
 use lib.IntN.{ℤ, pos, ◌+ℤ◌, ◌*ℤ◌}
 use mir.Facts.{to_z-of_z}
+use mir.Syntax.{w64}
 use Rattle.integers.specs.Parts.{up}
 use Rattle.integers.proofs.Linear.{ints, ◌∴◌}
 use Rattle.integers.proofs.Machine.{plain}
@@ -50,12 +51,12 @@ nth_from-found-requires c =
 
 -- a cell of this turn
 here : (c : In-At) → let n = (goal.at.In-At c).After-nth_from-found in let a = (goal.at.After-nth_from-found n).After-turn_of-at in let s = (goal.at.After-turn_of-at a).Start in
-    NthFrom s.args.words.now a.turn_of-at.result.cell s.args.k (At c.found-1.given.0.0)
+    NthFrom s.args.words.now a.turn_of-at.result.cell s.args.k (At c.in-At.i)
 here c =
     let n = (goal.at.In-At c).After-nth_from-found in
     let a = (goal.at.After-nth_from-found n).After-turn_of-at in
     let s = (goal.at.After-turn_of-at a).Start in
-    subst (NthFrom s.args.words.now a.turn_of-at.result.cell s.args.k) c.found-1.given.1 n.nth_from-found.ensures
+    subst (NthFrom s.args.words.now a.turn_of-at.result.cell s.args.k) c.in-At.is n.nth_from-found.ensures
 
 pub composed-requires : goal.composed-requires
 composed-requires c =
@@ -63,8 +64,8 @@ composed-requires c =
     let s = (goal.at.After-turn_of-at a).Start in
     let p = s.ranges.period in
     let f = (there a).turn-fits in
-    let i = set_below s.args.period s.args.words.now (known s) c.found-1.given.0.0 (here c).set in
-    record { turning = (simp plain (turning s.args.period s.args.words.now (known s), ((there a).near ∴ simp ints (omega arith), omega (arith, i, (known s).high)))).0; within = (simp plain (turning s.args.period s.args.words.now (known s), ((there a).near ∴ simp ints (omega arith), omega (arith, i, (known s).high)))).1 }
+    let i = set_below s.args.period s.args.words.now (known s) c.in-At.i (here c).set in
+    record { turning = simp plain (turning s.args.period s.args.words.now (known s)); within = simp plain ((there a).near ∴ simp ints (omega arith), omega (arith, i, (known s).high)) }
 
 pub turns_on-requires : goal.turns_on-requires
 turns_on-requires c =
@@ -73,8 +74,8 @@ turns_on-requires c =
     let s = (goal.at.After-turn_of-at a).Start in
     let p = s.ranges.period in
     let f = (there a).turn-fits in
-    let l = subst (NthFrom s.args.words.now a.turn_of-at.result.cell s.args.k) c.found-in-Short-1.given.1 n.nth_from-found.ensures in
-    record { sound = (simp plain (s.requires.sound, (((there a).below, (there a).near), s.requires.within.1, l))).0; near = (simp plain (s.requires.sound, (((there a).below, (there a).near), s.requires.within.1, l))).1 }
+    let l = subst (NthFrom s.args.words.now a.turn_of-at.result.cell s.args.k) c.in-Short.is n.nth_from-found.ensures in
+    record { sound = simp plain s.requires.sound; near = simp plain (((there a).below, (there a).near), s.requires.within.1, l) }
 
 pub returns-in-At : goal.returns-in-At
 returns-in-At c =
@@ -86,7 +87,7 @@ returns-in-At c =
     let g = known s in
     let p = s.ranges.period in
     let f = (there a).turn-fits in
-    let i = d.found-1.given.0.0 in
+    let i = d.in-At.i in
     let e : c.composed.result ≡ s.args.period *ℤ r.turn +ℤ pos i = simp plain at c.composed.ensures in
     let q : pos (set_before (map s) r.cell) +ℤ pos s.args.k ≡ pos (tally (cell l) r.cell + s.args.k) = simp ints (omega arith) in
     subst (OpenFrom (map s) s.args.t (pos s.args.k))

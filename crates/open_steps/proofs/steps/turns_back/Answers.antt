@@ -1,9 +1,9 @@
 -- `open_steps::steps::turns_back` meets its contract: the rank in the turn, by whole turns of the set cells and the rest.
 -- Assumes nothing.
 use mathlib.Core.Path.{◌≡◌, refl, ◌∙◌, sym, ap, subst}
-use Prim.Native.Nat.{ℕ, ◌+◌, ◌*◌, ◌-◌, ◌^◌, ◌≤◌, ◌<◌}
+use Prim.Native.Nat.{ℕ, ◌+◌, ◌-◌, ◌^◌, ◌≤◌, ◌<◌}
 use native.Mathlib.Omega.{arith}
-use borrow.Author.Rules.{rules, sfits_of}
+use borrow.Author.Rules.{sfits_of}
 use lib.IntN.{ℤ, pos, negsuc, nat_abs, ◌+ℤ◌, ◌-ℤ◌, ◌*ℤ◌}
 use lib.Signed.{◌≤ℤ◌}
 use mir.Facts.{to_z-of_z}
@@ -151,7 +151,7 @@ composed-requires c =
     let f = (rest b).turn-fits in
     let h = turn-fits b in
     let i = set_below s.args.period s.args.words.now (known s) n.nth_cell-i.result n.nth_cell-i.ensures.set in
-    record { turning = (simp plain (turning s.args.period s.args.words.now (known s), (turn_near b ∴ simp ints (omega arith), omega (arith, i, (known s).high)))).0; within = (simp plain (turning s.args.period s.args.words.now (known s), (turn_near b ∴ simp ints (omega arith), omega (arith, i, (known s).high)))).1 }
+    record { turning = simp plain (turning s.args.period s.args.words.now (known s)); within = simp plain (turn_near b ∴ simp ints (omega arith), omega (arith, i, (known s).high)) }
 
 pub returns : goal.returns
 returns c =

@@ -128,7 +128,7 @@ composed-requires c =
     let f = (rest b).turn-fits in
     let h = turn-fits b in
     let i = set_below s.args.period s.args.words.now (known s) n.nth_cell-i.result n.nth_cell-i.ensures.set in
-    record { turning = (simp plain (turning s.args.period s.args.words.now (known s), (turn_near b ∴ simp ints (omega arith), omega (arith, i, (known s).high)))).0; within = (simp plain (turning s.args.period s.args.words.now (known s), (turn_near b ∴ simp ints (omega arith), omega (arith, i, (known s).high)))).1 }
+    record { turning = simp plain (turning s.args.period s.args.words.now (known s)); within = simp plain (turn_near b ∴ simp ints (omega arith), omega (arith, i, (known s).high)) }
 
 pub returns : goal.returns
 returns c =

@@ -1,10 +1,6 @@
 -- `open_steps::upward::blocks` meets its contract. The loop's invariant: `left` set cells are to be passed from `word` on.
 -- Assumes nothing.
-use mathlib.Core.Path.{◌≡◌}
-use Prim.Native.Nat.{◌+◌, ◌*◌, ◌-◌, ◌≤◌}
 use native.Mathlib.Omega.{arith}
-use lib.ListN.{length}
-use Rattle.words.specs.Bits.{cell, tally}
 use Rattle.open_steps.proofs.upward.blocks.Goals as goal
 
 pub loop-word-init : goal.loop-word-init

@@ -2,7 +2,6 @@
 -- Assumes nothing.
 use mathlib.Core.Path.{◌≡◌}
 use Prim.Native.Nat.{◌+◌, ◌*◌, ◌-◌, ◌≤◌}
-use native.Mathlib.Omega.{arith}
 use lib.ListN.{length}
 use Rattle.words.specs.Bits.{cell, tally}
 use Rattle.open_steps.proofs.upward.blocks.Given as goal
@@ -12,4 +11,3 @@ invariant-loop-word l = (l.word ≤ length l.words) × (tally (cell l.words) (64
 
 abbrev pub decreases-loop-word : goal.decreases-loop-word
 decreases-loop-word l = length l.words - l.word
-

@@ -1,9 +1,8 @@
 -- `open_steps::upward::by_words` meets its contract. The loop's invariant: `left` set cells are to be passed from `word` on.
 -- Assumes nothing.
 use mathlib.Core.Path.{◌≡◌, ap}
-use Prim.Native.Nat.{ℕ, ◌+◌, ◌*◌, ◌-◌, ◌≤◌}
+use Prim.Native.Nat.{ℕ, ◌*◌}
 use native.Mathlib.Omega.{arith}
-use borrow.Author.Rules.{rules}
 use lib.ListN.{length}
 use Rattle.words.specs.Bits.{cell, tally}
 use Rattle.bitmaps.proofs.Words.{tally-whole}

@@ -3,7 +3,6 @@
 use mathlib.Core.Path.{subst}
 use Prim.Native.Nat.{ℕ, zero, suc, ◌*◌, ◌<◌}
 use native.Mathlib.Omega.{arith}
-use borrow.Author.Rules.{rules}
 use mathlib.Core.List.{List}
 use lib.ListN.{length}
 use Rattle.words.specs.Bits.{cell, tally}
@@ -28,7 +27,7 @@ returns-in-At c =
     let f = (goal.at.returns-in-At c).After-nth_from-found in
     let s = (goal.at.After-nth_from-found f).Start in
     let l = s.args.words.now in
-    let n = subst (NthFrom l 0 s.args.k) c.found-1.given.1 f.nth_from-found.ensures in
+    let n = subst (NthFrom l 0 s.args.k) c.in-At.is f.nth_from-found.ensures in
     record { set = n.set; rank = omega (arith, n.rank, tally-zero (cell l)) }
 
 pub returns-in-Short : goal.returns-in-Short
@@ -36,5 +35,5 @@ returns-in-Short c =
     let f = (goal.at.returns-in-Short c).After-nth_from-found in
     let s = (goal.at.After-nth_from-found f).Start in
     let l = s.args.words.now in
-    let n = subst (NthFrom l 0 s.args.k) c.enum_told-1.given.1 f.nth_from-found.ensures in
+    let n = subst (NthFrom l 0 s.args.k) c.in-Short.is f.nth_from-found.ensures in
     absurd (omega (arith, n, s.requires.2, tally-zero (cell l)))
