@@ -6,7 +6,7 @@
 -- Assumes `Logic`, and for a call that the table of calls is monotone under a frame, as every `Tables` is.
 use mathlib.Core.List.{List, [], ◌∷◌}
 use seplogic.Ra.Ura.{Ura}
-use mir.Syntax.{Fn, Name, Place, Opd as Operand, Body, seq, call}
+use mir.Syntax.{Fn, Callee, Place, Opd as Operand, Body, seq, call}
 use mir.Val.{Val}
 use base.Logic.{ent, sep, emp, via, mono_r, id⊢}
 use prog.Wp.{Env, Calls, Loops, WpFn, Tables}
@@ -28,7 +28,7 @@ use denote.Triple.Entry.{Args, Res, alive, on_entry}
 use denote.Triple.Spec.{Meets, triple_of}
 use denote.Triple.Walked.{Stays, AllGo, walk_of, walked, walk_Meets}
 
-module _ {M : Type 1} {𝓤 : Ura M} {𝓛 : Logic 𝓤} {K : Type 0} {Γ : List (Item 𝓤)} {E : Env 𝓤 𝓛.H} {C : Calls 𝓤 𝓛.H} {f : Name} {xs : List Operand} {Λ : Loops 𝓤 𝓛.H} {q : Post 𝓤 𝓛.H} {d : Place} {rest : Body} where
+module _ {M : Type 1} {𝓤 : Ura M} {𝓛 : Logic 𝓤} {K : Type 0} {Γ : List (Item 𝓤)} {E : Env 𝓤 𝓛.H} {C : Calls 𝓤 𝓛.H} {f : Callee} {xs : List Operand} {Λ : Loops 𝓤 𝓛.H} {q : Post 𝓤 𝓛.H} {d : Place} {rest : Body} where
   open 𝓛 use {H}
 
   pub calls-fn : K → FmC 𝓤 H 𝓛.laws C → (T : Ended) (c : Clauses 𝓤 T) → Meets 𝓛 T.signature (C f) (closing 𝓛 T c)

@@ -3,7 +3,7 @@ pub use base.Fml.{Fml, GName, Lft, Share, fat, fauth, fbor, fdies, flft, fobor, 
 pub use base.Logic.{SProp, emp, ent, fst∗, id⊢, via}
 pub use contract.Lifetimes.{Lfts}
 pub use contract.Monad.{Fun}
-pub use contract.Running.{given_of, tables}
+pub use contract.Running.{tables}
 unfoldable pub use contract.Running.{tables_of}
 pub use denote.Builtin.{i32, i64, usize}
 pub use denote.Exit.{yes}
@@ -21,7 +21,7 @@ pub use denote.Triple.Spec.{Meets, triple_of}
 pub use denote.Triple.Table.{cited, entered}
 pub use denote.Triple.Walked.{Stays, ends_at, gave_slice, Goes-gave_slice, Goes-none, Goes-none_slice, Goes-slice, says, stay_none, stay_none_slice, stay_slice, walk_of}
 pub use ghost.Atoms.{Atoms}
-pub use seplogic.Ra.TreeShare.{full_share}
+pub use base.Fraction.{full_share}
 pub use seplogic.Ra.Ura.{Ura}
 pub use lib.Dec.{T as Holds, lit<, ltb, ltb→lt, nltb→le}
 pub use lib.IntN.{ℤ}
@@ -38,6 +38,6 @@ pub use prog.Routine.{Routine}
 pub use prog.Wp.{Env, Heap, Out, Tables, Wp, WpFn, after_block, after_seq, at_return}
 unfoldable pub use prog.Wp.{after_turn}
 pub use sound.WpLaws.{fm_of}
-pub use types.Kit.{ !, Given, Item, Sq, ◌$◌, ◌∵◌, ◌⊛◌, any_q, at_ret, by, done, drop, feq_i, feq_l, fjoin, frame, fsplit, join, keep, move, qed, raw, rewrite, runs, split, suffices, use1, use2, ‵, ⋆}
+pub use types.Kit.{ !, Item, Sq, ◌$◌, ◌∵◌, ◌⊛◌, any_q, at_ret, by, done, drop, feq_i, feq_l, fjoin, frame, fsplit, join, keep, move, qed, raw, rewrite, runs, split, suffices, use1, use2, ‵, ⋆}
 pub use types.Part.{agg}
 pub use types.Run.{Below, again, alloc0, alloc1, and_then, assigns, assigns_last, bin, blocks, branches, enter, exec, first, forget, free0, from, hop, init, jumps, land, lit, look, loops, no_more, of_opd, params1, pass0, pass1, returns, skips, stop, store, store_raw, unit_lit}

@@ -18,7 +18,7 @@ use denote.Slice.{finally}
 
 abbrev pub owns_then : (Ts : List RattleType) → Denots Ts → Valss Ts → Fml → Fml
 owns_then [] a vss F = F
-owns_then (T ∷ Ts) a vss F = fsep (T.own a.0 vss.0) (owns_then Ts a.1 vss.1 F)
+owns_then (T ∷ Ts) a vss F = fsep (T.own_val a.0 vss.0) (owns_then Ts a.1 vss.1 F)
 
 abbrev pub silent : ℕ → Fml
 silent zero = ftrue
@@ -38,14 +38,14 @@ module _ {M : Type 1} {𝓤 : Ura M} (𝓛 : Logic 𝓤) where
   pub last : (Ts : List RattleType) (a : Denots Ts) (vss : Valss Ts) (F : Fml) → ent 𝓤 (sep 𝓤 ⟦ owns Ts a vss ⟧ ⟦ F ⟧) ⟦ owns_then Ts a vss F ⟧
   last [] a vss F = snd∗ 𝓤 (emp 𝓤) ⟦ F ⟧
   last (T ∷ Ts) a vss F =
-      via 𝓤 (sep 𝓤 ⟦ T.own a.0 vss.0 ⟧ (sep 𝓤 ⟦ owns Ts a.1 vss.1 ⟧ ⟦ F ⟧)) (assoc∗ 𝓤 ⟦ T.own a.0 vss.0 ⟧ ⟦ owns Ts a.1 vss.1 ⟧ ⟦ F ⟧)
-      (mono_r 𝓤 ⟦ T.own a.0 vss.0 ⟧ (last Ts a.1 vss.1 F))
+      via 𝓤 (sep 𝓤 ⟦ T.own_val a.0 vss.0 ⟧ (sep 𝓤 ⟦ owns Ts a.1 vss.1 ⟧ ⟦ F ⟧)) (assoc∗ 𝓤 ⟦ T.own_val a.0 vss.0 ⟧ ⟦ owns Ts a.1 vss.1 ⟧ ⟦ F ⟧)
+      (mono_r 𝓤 ⟦ T.own_val a.0 vss.0 ⟧ (last Ts a.1 vss.1 F))
 
   pub unlast : (Ts : List RattleType) (a : Denots Ts) (vss : Valss Ts) (F : Fml) → ent 𝓤 ⟦ owns_then Ts a vss F ⟧ (sep 𝓤 ⟦ owns Ts a vss ⟧ ⟦ F ⟧)
   unlast [] a vss F = emp∗ 𝓤 ⟦ F ⟧
   unlast (T ∷ Ts) a vss F =
-      via 𝓤 (sep 𝓤 ⟦ T.own a.0 vss.0 ⟧ (sep 𝓤 ⟦ owns Ts a.1 vss.1 ⟧ ⟦ F ⟧)) (mono_r 𝓤 ⟦ T.own a.0 vss.0 ⟧ (unlast Ts a.1 vss.1 F))
-      (assoc' 𝓤 ⟦ T.own a.0 vss.0 ⟧ ⟦ owns Ts a.1 vss.1 ⟧ ⟦ F ⟧)
+      via 𝓤 (sep 𝓤 ⟦ T.own_val a.0 vss.0 ⟧ (sep 𝓤 ⟦ owns Ts a.1 vss.1 ⟧ ⟦ F ⟧)) (mono_r 𝓤 ⟦ T.own_val a.0 vss.0 ⟧ (unlast Ts a.1 vss.1 F))
+      (assoc' 𝓤 ⟦ T.own_val a.0 vss.0 ⟧ ⟦ owns Ts a.1 vss.1 ⟧ ⟦ F ⟧)
 
   quiet : (n : ℕ) → ent 𝓤 (emp 𝓤) ⟦ silent n ⟧
   quiet zero = id⊢ 𝓤 (emp 𝓤)

@@ -17,7 +17,7 @@ use Prim.Native.Nat.{ℕ}
 use mathlib.Core.List.{List, [], ◌∷◌}
 use lib.Dec.{T as Holds}
 use seplogic.Ra.Ura.{Ura}
-use mir.Syntax.{Ty, Fn, Name, Place, Opd as Operand, Body, seq, call}
+use mir.Syntax.{Ty, Fn, Callee, Place, Opd as Operand, Body, seq, call}
 use mir.Val.{Val, WT, has_ty}
 use base.Logic.{SProp, ent, sep, wand, guard, emp, via, comm∗, mono_l, mono∗, snd∗, id⊢, ex_e, ex_i, guard_i, wand_i, apply∗}
 use prog.Wp.{Heap, Env, WpFn, Tables}
@@ -42,10 +42,10 @@ use Rattle.hand_proofs.proofs.Params.{Knowns, Spelled, Passed, spells, tells_all
 abbrev pub IsOf : Ty → Val → Type 0
 IsOf τ u = Holds (has_ty τ u) × WT u
 
-abbrev pub Passes : {M : Type 1} (𝓤 : Ura M) (H : Heap 𝓤) (𝓣 : Tables 𝓤 H) → Fn → List Val → Name → List Val → Ty → Type 2
+abbrev pub Passes : {M : Type 1} (𝓤 : Ura M) (H : Heap 𝓤) (𝓣 : Tables 𝓤 H) → Fn → List Val → Callee → List Val → Ty → Type 2
 Passes 𝓤 H 𝓣 f us k vs τ = (P : SProp 𝓤) (Q : Val → SProp 𝓤) → ent 𝓤 P (𝓣.C k vs (λ u. H.⇛ (guard 𝓤 (IsOf τ u) (Q u)))) → ent 𝓤 P (WpFn 𝓤 H 𝓣.C 𝓣.Λ f us Q)
 
-module _ {M : Type 1} {𝓤 : Ura M} {𝓛 : Logic 𝓤} {K : Type 0} {Γ : List (Item 𝓤)} {E : Env 𝓤 𝓛.H} {k : Name} {xs : List Operand} {q : Post 𝓤 𝓛.H} {d : Place} {rest : Body} where
+module _ {M : Type 1} {𝓤 : Ura M} {𝓛 : Logic 𝓤} {K : Type 0} {Γ : List (Item 𝓤)} {E : Env 𝓤 𝓛.H} {k : Callee} {xs : List Operand} {q : Post 𝓤 𝓛.H} {d : Place} {rest : Body} where
   open 𝓛 use {H}
 
   pub calls-on : K → (𝓣 : Tables 𝓤 H) (P : SProp 𝓤) (vs : List Val) (τ : Ty) (Q : Val → SProp 𝓤) → ent 𝓤 P (𝓣.C k vs (λ u. H.⇛ (guard 𝓤 (IsOf τ u) (Q u)))) → Opds K 𝓛 (raw P ∷ Γ) E xs vs
@@ -85,7 +85,7 @@ module _ {M : Type 1} {𝓤 : Ura M} (𝓛 : Logic 𝓤) (S : Signature) (c : Sp
       (apply∗ 𝓤 R (Q y.0.4))
 
 -- T and c are g's, T' and c' are f's
-module _ {M : Type 1} {𝓤 : Ura M} (𝓛 : Logic 𝓤) (𝓣 : Tables 𝓤 𝓛.H) (T : Ended) (c : Clauses 𝓤 T) (k : Name) (met : Meets 𝓛 T.signature (𝓣.C k) (closing 𝓛 T c)) (T' : Ended) (c' : Clauses 𝓤 T') (f : Fn) where
+module _ {M : Type 1} {𝓤 : Ura M} (𝓛 : Logic 𝓤) (𝓣 : Tables 𝓤 𝓛.H) (T : Ended) (c : Clauses 𝓤 T) (k : Callee) (met : Meets 𝓛 T.signature (𝓣.C k) (closing 𝓛 T c)) (T' : Ended) (c' : Clauses 𝓤 T') (f : Fn) where
   open 𝓛 use {H}
 
   abbrev S : Signature
@@ -111,7 +111,7 @@ module _ {M : Type 1} {𝓤 : Ura M} (𝓛 : Logic 𝓤) (𝓣 : Tables 𝓤 �
     returned says back τ typed u = 𝓛.laws.⇛_mono _ _ (ex_e 𝓤 (λ (r : Res S x.0). sep 𝓤 (Back 𝓛 S x u r) (ensured 𝓛 T c x.0 x.3 g r)) (λ r.
         let B : SProp 𝓤 = Back 𝓛 S x u r in
         let E : SProp 𝓤 = ensured 𝓛 T c x.0 x.3 g r in
-        let own : SProp 𝓤 = sem 𝓛 (R.own r (u ∷ [])) in
+        let own : SProp 𝓤 = sem 𝓛 (R.own_val r (u ∷ [])) in
         fact_use 𝓤 (Is R r (u ∷ [])) (via 𝓤 B (via 𝓤 (sep 𝓤 E B) (comm∗ 𝓤 B E) (snd∗ 𝓤 E B)) (via 𝓤 own (snd∗ 𝓤 (alive 𝓛 S x.0 x.1) own) (shows 𝓛 R r (u ∷ []))))
         (λ is. via 𝓤 (After' u)
         (via 𝓤 (sep 𝓤 (Back 𝓛 S' y u (to r)) (ensured 𝓛 T' c' y.0 y.3 g' (to r))) (mono∗ 𝓤 (back r u) (says r))

@@ -14,8 +14,8 @@ use mathlib.Core.Option.{some}
 use mathlib.Core.List.{List, [], ◌∷◌}
 use lib.Dec.{T as Holds}
 use seplogic.Ra.Ura.{Ura}
-use seplogic.Ra.TreeShare.{full_share}
-use mir.Syntax.{Sym, Ty, Tys, ty_struct, ty_unit, Local, local, place, field, deref, copy, addr_of, Rv as RValue, Body, skip, seq, assign, block, loop, cond, switch, exit, return, call}
+use base.Fraction.{full_share}
+use mir.Syntax.{Sym, Ty, Tys, ty_struct, ty_unit, Local, local, place, field, deref, copy, addr_of, Rv as RValue, Body, skip, seq, assign, block, loop, cond, switch, exit, return, call, unreachable, call_v, lend_static}
 use mir.Fields.{get_v, set_v}
 use mir.Val.{Val, Vals, vptr, vstruct, vcons, WT, has_ty}
 use base.Logic.{ent, sep, via, mono_l, mono_r, id⊢}
@@ -76,7 +76,7 @@ module _ {M : Type 1} {𝓤 : Ura M} {𝓛 : Logic 𝓤} {K : Type 0} {Γ : List
 module _ {M : Type 1} {𝓤 : Ura M} {𝓛 : Logic 𝓤} {K : Type 0} {Γ : List (Item 𝓤)} where
   open 𝓛 use {H}
 
-  pub with-own : K → {G : Goal 𝓤 H} {F : Fml} (R : RattleType) → Makes 𝓛 R (Is R) → (x : R.Denot) (vs : List Val) → Is R x vs → Step K 𝓛 (‵ (fsep (R.own x vs) F) ∷ Γ) G (‵ F ∷ Γ) G
+  pub with-own : K → {G : Goal 𝓤 H} {F : Fml} (R : RattleType) → Makes 𝓛 R (Is R) → (x : R.Denot) (vs : List Val) → Is R x vs → Step K 𝓛 (‵ (fsep (R.own_val x vs) F) ∷ Γ) G (‵ F ∷ Γ) G
   with-own t R mk x vs is = step (λ s. owned t R (Is R) mk x vs is $ fjoin t $ s)
 
 -- ---- parts of the MIR
@@ -97,6 +97,9 @@ rest_of (switch c ts) = skip
 rest_of (exit n) = skip
 rest_of return = skip
 rest_of (call f xs p) = skip
+rest_of unreachable = skip
+rest_of (call_v v s xs p) = skip
+rest_of (lend_static a b c) = skip
 
 abbrev pub after : ℕ → Body → Body
 after zero t = t
