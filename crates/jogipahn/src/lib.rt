@@ -203,13 +203,3 @@ pub use open_map::{
 };
 pub use open_steps::{OpenStep, between as between_open, nth as nth_open};
 pub use row_maps::{Made, make as make_open_map};
-
-// The same for C, as include/jogipahn.h declares them.
-mod c_api;
-mod c_batches;
-mod c_check;
-mod c_civil;
-mod c_journal;
-mod c_open;
-mod c_steps;
-mod c_walk;

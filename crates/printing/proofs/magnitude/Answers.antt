@@ -1,7 +1,6 @@
 -- `printing::magnitude` meets its contract: of a negative v, -1 - v fits and is not negative.
 -- Assumes nothing.
 use native.Mathlib.Omega.{arith}
-use borrow.Author.Rules.{rules}
 use lib.IntN.{ℤ, pos, negsuc, ◌-ℤ◌}
 use lib.Signed.{◌≤ℤ◌, ◌<ℤ◌, yes_non_neg, nat_abs-le}
 use mir.Syntax.{w64}

@@ -5,7 +5,7 @@ use Prim.Native.Nat.{◌≤◌, ◌-◌}
 use Rattle.planner.proofs.down.print_parts.Given as goal
 
 abbrev pub invariant-loop-i : goal.invariant-loop-i
-invariant-loop parts n i₀ t4 t5 i = i ≤ n
+invariant-loop-i g l = l.i ≤ l.n
 
 abbrev pub decreases-loop-i : goal.decreases-loop-i
-decreases-loop parts n i₀ t4 t5 i = n - i
+decreases-loop-i g l = l.n - l.i
