@@ -13,12 +13,6 @@ use Rattle.parts.specs.Walk.{Nearest}
 use Rattle.parts.proofs.ended.Goals as goal
 use Rattle.parts.proofs.ended.Goals.{After-nearest_label-next, Start}
 
-pub nearest_label-next-requires : goal.nearest_label-next-requires
-nearest_label-next-requires s =
-    let p = s.ranges.period in
-    let d = s.ranges.distance in
-    record { sound = (simp plain s.requires).0; roomy = (simp plain s.requires).1 }
-
 abbrev row : Start → Row
 row s = given s.args.period s.args.distance s.args.cells.now
 

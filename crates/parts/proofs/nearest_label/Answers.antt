@@ -1,12 +1,11 @@
 -- `parts::nearest_label` meets its contract: it is a walk over a gap.
 -- Assumes nothing.
-use borrow.Author.Rules.{rules, sfits_of}
+use borrow.Author.Rules.{rules}
 use mathlib.Core.Path.{◌≡◌, sym, ◌∙◌, ap}
 use mathlib.Core.Option.{none}
 use lib.IntN.{ℤ}
 use mir.Syntax.{w64}
 use mir.Val.{to_z, of_z, SFits}
-use Rattle.integers.specs.Parts.{up}
 use Rattle.integers.proofs.Machine.{plain}
 use Rattle.calendar.specs.Meaning.{Row, meant}
 use Rattle.calendar.specs.Questions.{given}
@@ -16,11 +15,10 @@ use Rattle.cursors.specs.Cursor.{cursor_at}
 use Rattle.cursors.specs.Direction.{stepped}
 use Rattle.cursors.proofs.Numbers.{numbers, valid}
 use Rattle.cursors.proofs.Direction.{away-near}
-use Rattle.granule_ends.proofs.Walks.{left}
 use Rattle.containment.specs.Places.{instant}
 use Rattle.containment.proofs.Places.{instant-is}
 use Rattle.parts.specs.Walk.{Roomy}
-use Rattle.parts.proofs.WalkGaps.{Gap, gap-start, gap-label, gap_step, gap-less}
+use Rattle.parts.proofs.WalkGaps.{gap-start, gap-label, gap_step, gap-less}
 use Rattle.parts.proofs.nearest_label.Goals as goal
 use Rattle.parts.proofs.nearest_label.Goals.{After-cursor_label-label, After-cursor_step-c, At-loop-j, In-At, Start as Start-place}
 
@@ -75,8 +73,8 @@ label_is : (c : After-cursor_label-label) → meant (row (goal.at.After-cursor_l
 label_is c = sym (c.cursor_label-label.ensures (here (goal.at.After-cursor_label-label c).At-loop-j) c.loop-j.invariant.cursor)
 
 -- a label
-label-fits : (c : In-At) → SFits w64 c.label-1.given.0.0
-label-fits c = sfits_of c.known_told-1.given.0.1
+label-fits : (c : In-At) → SFits w64 c.in-At.j
+label-fits c = search rules
 
 pub returns-in-At : goal.returns-in-At
 returns-in-At c =
@@ -85,7 +83,7 @@ returns-in-At c =
     let p = s.ranges.period in
     let d = s.ranges.distance in
     let k = label-fits c in
-    let x = gap-label s.args.back (row s) (rules_own s) (begin s) l.loop-j.c (here (goal.at.After-cursor_label-label l).At-loop-j) l.loop-j.invariant _ (label_is l ∙ ap found c.label-1.given.1) in
+    let x = gap-label s.args.back (row s) (rules_own s) (begin s) l.loop-j.c (here (goal.at.After-cursor_label-label l).At-loop-j) l.loop-j.invariant _ (label_is l ∙ ap found c.in-At.is) in
     simp plain (simp plain at x)
 
 -- none
@@ -102,7 +100,7 @@ next-is : (c : After-cursor_step-c) → next c ≡ stepped c.args.back (here (go
 next-is c = let s = (goal.at.After-cursor_step-c c).Start in instant-is (row s) (rules_own s) c.cursor_step-c.result _ (moved c)
 
 no_label : (c : After-cursor_step-c) → let l = (goal.at.After-cursor_step-c c).At-loop-j in meant (row (goal.at.At-loop-j l).Start) (here l) ≡ none
-no_label c = label_is (goal.at.After-cursor_step-c c).After-cursor_label-label ∙ ap found c.enum_told-1.given.1
+no_label c = label_is (goal.at.After-cursor_step-c c).After-cursor_label-label ∙ ap found c.in_default.is
 
 pub loop-j-smaller : goal.loop-j-smaller
 loop-j-smaller c =

@@ -1,6 +1,6 @@
 -- `parts::part_at` meets its contract: the label in h is looked at, then that in g.
 -- Assumes nothing.
-use borrow.Author.Rules.{rules, sfits_of}
+use borrow.Author.Rules.{rules}
 use mathlib.Core.Path.{◌≡◌, sym, ◌∙◌, ap, subst}
 use mathlib.Core.Logic.{inl, inr}
 use mathlib.Core.Option.{none, some}
@@ -16,22 +16,22 @@ use Rattle.parts.proofs.part_at.Goals as goal
 use Rattle.parts.proofs.part_at.Goals.{Else-j-z, Else-k-outside, In-At, In-At-label, In-At-label-2, In_default, Start}
 
 no_own : (c : In_default) → found c.args.own ≡ none
-no_own c = ap found c.enum_told-1.given.1
+no_own c = ap found c.in_default.is
 
 pub returns-in_default-label : goal.returns-in_default-label
-returns-in_default-label c = inl (no_own (goal.at.returns-in_default-label c).In_default, ap found c.enum_told-in_default-label-1.given.1)
+returns-in_default-label c = inl (no_own (goal.at.returns-in_default-label c).In_default, ap found c.in_default-label.is)
 
 abbrev begun : In-At-label → Start
 begun c = (goal.at.In-At-label c).Start
 
 abbrev label : In-At-label → ℤ
-label c = c.label-1.given.0.0
+label c = c.in-At-label.k
 
 label-fits : (c : In-At-label) → SFits w64 (label c)
-label-fits c = sfits_of c.known_told-in_default-1.given.0.1
+label-fits c = search rules
 
 label-some : (c : In-At-label) → found (begun c).args.label ≡ some (label c)
-label-some c = ap found c.label-1.given.1
+label-some c = ap found c.in-At-label.is
 
 pub returns-then-k-latest : goal.returns-then-k-latest
 returns-then-k-latest c =
@@ -46,13 +46,13 @@ returns-in_default c =
     (no_own (goal.at.In-At-label d).In_default, (label-some d, λ e. c.if-k-latest.false ((test-eq w64 _ _ (label-fits d) s.ranges.latest).1 e)))
 
 abbrev own : In-At → ℤ
-own c = c.own-1.given.0.0
+own c = c.in-At.j
 
 own-fits : (c : In-At) → SFits w64 (own c)
-own-fits c = sfits_of c.known_told-1.given.0.1
+own-fits c = search rules
 
 own-some : (c : In-At) → found c.args.own ≡ some (own c)
-own-some c = ap found c.own-1.given.1
+own-some c = ap found c.in-At.is
 
 pub returns-then-j-z : goal.returns-then-j-z
 returns-then-j-z c =
@@ -64,19 +64,19 @@ in-granule : (c : Else-j-z) → let s = (goal.at.Else-j-z c).Start in found s.ar
 in-granule c = let d = (goal.at.Else-j-z c).In-At in own-some d ∙ ap some ((test-eq w64 _ _ (own-fits d) d.ranges.z).0 c.if-j-z.false)
 
 pub returns-in_default-label-2 : goal.returns-in_default-label-2
-returns-in_default-label-2 c = inl (in-granule (goal.at.returns-in_default-label-2 c).Else-j-z, inl (ap found c.enum_told-in_default-label-2-1.given.1))
+returns-in_default-label-2 c = inl (in-granule (goal.at.returns-in_default-label-2 c).Else-j-z, inl (ap found c.in_default-label-2.is))
 
 abbrev start : In-At-label-2 → Start
 start c = (goal.at.In-At-label-2 c).Start
 
 abbrev part : In-At-label-2 → ℤ
-part c = c.label-in-At-label-2-1.given.0.0
+part c = c.in-At-label-2.k
 
 part-fits : (c : In-At-label-2) → SFits w64 (part c)
-part-fits c = sfits_of c.known_told-in-At-label-2-1.given.0.1
+part-fits c = search rules
 
 part-some : (c : In-At-label-2) → found (start c).args.label ≡ some (part c)
-part-some c = ap found c.label-in-At-label-2-1.given.1
+part-some c = ap found c.in-At-label-2.is
 
 pub returns-then-k-outside : goal.returns-then-k-outside
 returns-then-k-outside c =
