@@ -2,9 +2,10 @@
 -- Assumes nothing.
 use mathlib.Core.Path.{◌≡◌, ◌∙◌, sym, ap}
 use mathlib.Core.Bool.{true, ◌&&◌}
-use borrow.Author.Rules.{rules, sfits_of}
+use borrow.Author.Rules.{sfits_of}
 use borrow.Author.Tests.{not-true, not-false}
 use mir.Facts.{to_z-of_z}
+use mir.Syntax.{w64}
 use Rattle.integers.proofs.Machine.{plain}
 use Rattle.calendar.specs.Meaning.{Row}
 use Rattle.calendar.specs.Reply.Reply.{answer}
@@ -56,7 +57,7 @@ between_of-requires c =
     let d = s.ranges.distance in
     let f = s.ranges.x in
     let g = s.ranges.y in
-    record { sound = (simp plain (is-sound (goal.at.between_of-requires c).Else-not-sound, is-near c)).0; y_value = (simp plain (is-sound (goal.at.between_of-requires c).Else-not-sound, is-near c)).1 }
+    record { sound = simp plain (is-sound (goal.at.between_of-requires c).Else-not-sound); y_value = simp plain (is-near c) }
 
 pub returns : goal.returns
 unfolding between_reply

@@ -3,9 +3,10 @@
 use mathlib.Core.Path.{◌≡◌, ◌∙◌, sym, ap}
 use mathlib.Core.Bool.{true}
 use mathlib.Core.Option.{some}
-use borrow.Author.Rules.{rules, sfits_of}
+use borrow.Author.Rules.{rules}
 use borrow.Author.Tests.{not-true, not-false}
 use mir.Facts.{to_z-of_z}
+use mir.Syntax.{w64}
 use Rattle.integers.specs.Parts.{up}
 use Rattle.integers.proofs.Machine.{plain}
 use Rattle.calendar.specs.Meaning.{Row}
@@ -18,7 +19,7 @@ use Rattle.open_steps.specs.Steps.{nth_open}
 use Rattle.open_steps.specs.Inquiries.{may_step}
 use Rattle.open_row.specs.Inquiries.{opens, nth_reply}
 use Rattle.open_row.proofs.nth_open.Goals as goal
-use Rattle.open_row.proofs.nth_open.Goals.{After-may_step, After-nth_of-instant, After-sound, Else-not-may_step, Else-not-sound, In-At-2, Start}
+use Rattle.open_row.proofs.nth_open.Goals.{After-may_step, After-nth_of-instant, After-sound, Else-not-may_step, Else-not-sound, Start}
 
 abbrev row : Start → Row
 row s = given s.args.period s.args.distance s.args.cells.now
@@ -59,7 +60,7 @@ nth_of-instant-requires c =
     let d = s.ranges.distance in
     let f = s.ranges.x in
     let g = s.ranges.steps in
-    record { sound = (simp plain (is-sound (goal.at.nth_of-instant-requires c).Else-not-sound, is-near c)).0; n_value = (simp plain (is-sound (goal.at.nth_of-instant-requires c).Else-not-sound, is-near c)).1 }
+    record { sound = simp plain (is-sound (goal.at.nth_of-instant-requires c).Else-not-sound); n_value = simp plain (is-near c) }
 
 -- what the question answers, by the instant found
 replied : (c : After-nth_of-instant) → let s = (goal.at.After-nth_of-instant c).Start in
@@ -77,8 +78,7 @@ replied c =
 
 pub returns-in-At : goal.returns-in-At
 returns-in-At c =
-    let k = (goal.at.returns-in-At c).In-At-2 in
-    ap answer (ap some (to_z-of_z (sfits_of c.known_told-1.given.0.1)) ∙ sym (ap found k.instant-1.given.1)) ∙ sym (replied (goal.at.In-At-2 k).After-nth_of-instant)
+    ap answer (ap some (to_z-of_z {w = w64} (search rules)) ∙ sym (ap found c.in-At.is)) ∙ sym (replied (goal.at.returns-in-At c).After-nth_of-instant)
 
 pub returns-in-Nothing : goal.returns-in-Nothing
-returns-in-Nothing c = ap answer (sym (ap found c.enum_told-1.given.1)) ∙ sym (replied (goal.at.returns-in-Nothing c).After-nth_of-instant)
+returns-in-Nothing c = ap answer (sym (ap found c.in-Nothing.is)) ∙ sym (replied (goal.at.returns-in-Nothing c).After-nth_of-instant)

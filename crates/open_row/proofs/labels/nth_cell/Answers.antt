@@ -1,16 +1,13 @@
 -- `open_row::labels::nth_cell` meets its contract: the loop counts the labels of the blocks that it passes.
 -- Assumes nothing.
 use mathlib.Core.Path.{◌≡◌, ap, subst}
-use mathlib.Core.List.{List}
-use Prim.Native.Nat.{ℕ, ◌+◌, ◌-◌, ◌≤◌}
+use Prim.Native.Nat.{ℕ}
 use native.Mathlib.Omega.{arith}
-use lib.IntN.{ℤ}
 use lib.ListN.{length}
 use Rattle.open_steps.specs.Ranked.{Nth}
 use Rattle.words.proofs.Tally.{tally-zero}
 use Rattle.row_maps.specs.Making.{labelled}
 use Rattle.open_row.specs.Shown.{labelled_before}
-use Rattle.open_row.proofs.labels.nth_cell.Invariants.{Inv}
 use Rattle.open_row.proofs.labels.nth_cell.Goals as goal
 use Rattle.open_row.proofs.labels.nth_cell.Goals.{At-loop-i}
 

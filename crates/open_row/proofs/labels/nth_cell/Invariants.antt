@@ -1,14 +1,10 @@
 -- `open_row::labels::nth_cell` meets its contract: the loop counts the labels of the blocks that it passes.
 -- Assumes nothing.
-use mathlib.Core.Path.{◌≡◌, ap, subst}
+use mathlib.Core.Path.{◌≡◌}
 use mathlib.Core.List.{List}
 use Prim.Native.Nat.{ℕ, ◌+◌, ◌-◌, ◌≤◌}
-use native.Mathlib.Omega.{arith}
 use lib.IntN.{ℤ}
 use lib.ListN.{length}
-use Rattle.open_steps.specs.Ranked.{Nth}
-use Rattle.words.proofs.Tally.{tally-zero}
-use Rattle.row_maps.specs.Making.{labelled}
 use Rattle.open_row.specs.Shown.{labelled_before}
 use Rattle.open_row.proofs.labels.nth_cell.Given as goal
 
@@ -21,4 +17,3 @@ invariant-loop-i l = Inv l.cells l.k l.left l.i
 
 abbrev pub decreases-loop-i : goal.decreases-loop-i
 decreases-loop-i l = length l.cells - l.i
-

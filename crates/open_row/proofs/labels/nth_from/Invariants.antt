@@ -1,18 +1,11 @@
 -- `open_row::labels::nth_from` meets its contract: the loop counts the labels that it passes.
 -- Assumes nothing.
-use mathlib.Core.Path.{◌≡◌, ap}
-use mathlib.Core.Logic.{⊎_elim}
+use mathlib.Core.Path.{◌≡◌}
 use mathlib.Core.List.{List}
-use Prim.Native.Nat.{ℕ, ◌+◌, ◌-◌, ◌≤◌, ◌<◌}
-use native.Mathlib.Omega.{arith}
-use borrow.Author.Rules.{sfits_of}
-use lib.IntN.{ℤ, pos}
-use lib.ListN.{length, get_or}
-use Rattle.cursors.proofs.Cells.{bits-empty, bits_full}
-use Rattle.words.proofs.Tally.{tally-one}
-use Rattle.row_maps.specs.Making.{labelled}
+use Prim.Native.Nat.{ℕ, ◌+◌, ◌-◌, ◌≤◌}
+use lib.IntN.{ℤ}
+use lib.ListN.{length}
 use Rattle.open_row.specs.Shown.{labelled_before}
-use Rattle.open_row.proofs.Labelled.{labelled-one, labelled-zero}
 use Rattle.open_row.proofs.labels.nth_from.Given as goal
 
 pub record Inv (cells : List ℤ) (start k left i : ℕ) : Type 0 where
@@ -24,4 +17,3 @@ invariant-loop-i l = Inv l.cells l.start l.k l.left l.i
 
 abbrev pub decreases-loop-i : goal.decreases-loop-i
 decreases-loop-i l = length l.cells - l.i
-

@@ -49,7 +49,7 @@ risen-requires s =
     let g = s.ranges.y in
     let x = x_fits s in
     let y = y-fits s in
-    record { sound = (simp plain (s.requires.sound, near s)).0; within = (simp plain (s.requires.sound, near s)).1 }
+    record { sound = simp plain s.requires.sound; within = simp plain (near s) }
 
 pub returns : goal.returns
 returns c =

@@ -2,7 +2,6 @@
 -- Assumes nothing.
 use mathlib.Core.Path.{◌≡◌, ◌∙◌, sym, ap}
 use native.Mathlib.Omega.{arith}
-use borrow.Author.Rules.{rules}
 use Rattle.integers.proofs.Linear.{ints, ◌∴◌}
 use Rattle.integers.proofs.Machine.{plain}
 use Rattle.calendar.specs.Meaning.{meant}
@@ -17,7 +16,7 @@ label_at-label-requires s =
     let p = s.ranges.period in
     let d = s.ranges.distance in
     let x = s.ranges.x in
-    record { sound = (simp plain (s.requires.sound, s.requires.within ∴ simp ints (omega arith))).0; near = (simp plain (s.requires.sound, s.requires.within ∴ simp ints (omega arith))).1 }
+    record { sound = simp plain s.requires.sound; near = simp plain (s.requires.within ∴ simp ints (omega arith)) }
 
 labelled : (c : After-label_at-label) → let s = (goal.at.After-label_at-label c).Start in
     found c.label_at-label.result ≡ meant (given s.args.period s.args.distance s.args.cells.now) s.args.x
@@ -29,7 +28,7 @@ labelled c =
     simp plain at c.label_at-label.ensures
 
 pub returns-in-At : goal.returns-in-At
-returns-in-At c = ap is_some (sym (ap found c.enum_told-1.given.1) ∙ labelled (goal.at.returns-in-At c).After-label_at-label)
+returns-in-At c = ap is_some (sym (ap found c.in-At.is) ∙ labelled (goal.at.returns-in-At c).After-label_at-label)
 
 pub returns-in-Nothing : goal.returns-in-Nothing
-returns-in-Nothing c = ap is_some (sym (ap found c.enum_told-in-Nothing-1.given.1) ∙ labelled (goal.at.returns-in-Nothing c).After-label_at-label)
+returns-in-Nothing c = ap is_some (sym (ap found c.in-Nothing.is) ∙ labelled (goal.at.returns-in-Nothing c).After-label_at-label)

@@ -64,7 +64,7 @@ open_from-requires c =
     let n = s.ranges.n in
     let y = behind-fits s in
     let m = less-fits s in
-    record { sound = (simp plain (s.requires.sound, ((limits s).0 ∴ simp ints (omega arith), (limits s).1 ∴ simp ints (omega arith)))).0; within = (simp plain (s.requires.sound, ((limits s).0 ∴ simp ints (omega arith), (limits s).1 ∴ simp ints (omega arith)))).1 }
+    record { sound = simp plain s.requires.sound; within = simp plain ((limits s).0 ∴ simp ints (omega arith), (limits s).1 ∴ simp ints (omega arith)) }
 
 -- what is asked, of the map
 asked : (s : Start) → let P = up s.args.period in
@@ -91,7 +91,7 @@ open_from-requires-then-n-lt0 c =
     let d = s.ranges.distance in
     let x = s.ranges.x in
     let n = s.ranges.n in
-    record { sound = (simp plain (s.requires.sound, ((limits s).0 ∴ simp ints (omega arith), (limits s).1 ∴ simp ints (omega arith)))).0; within = (simp plain (s.requires.sound, ((limits s).0 ∴ simp ints (omega arith), (limits s).1 ∴ simp ints (omega arith)))).1 }
+    record { sound = simp plain s.requires.sound; within = simp plain ((limits s).0 ∴ simp ints (omega arith), (limits s).1 ∴ simp ints (omega arith)) }
 
 pub returns-then-n-lt0 : goal.returns-then-n-lt0
 returns-then-n-lt0 c =
@@ -110,7 +110,7 @@ is_open-requires c =
     let p = s.ranges.period in
     let d = s.ranges.distance in
     let x = s.ranges.x in
-    record { sound = (simp plain (s.requires.sound, (limits s).0 ∴ simp ints (omega arith))).0; within = (simp plain (s.requires.sound, (limits s).0 ∴ simp ints (omega arith))).1 }
+    record { sound = simp plain s.requires.sound; within = simp plain ((limits s).0 ∴ simp ints (omega arith)) }
 
 -- zero steps
 stays : (c : After-is_open) → let s = (goal.at.After-is_open c).Start in

@@ -4,7 +4,7 @@ use mathlib.Core.Path.{◌≡◌, ◌∙◌, sym, ap, subst}
 use mathlib.Core.List.{List}
 use Prim.Native.Nat.{ℕ, ◌^◌, ◌≤◌, ◌<◌}
 use native.Mathlib.Omega.{arith}
-use borrow.Author.Rules.{rules, sfits_of}
+use borrow.Author.Rules.{sfits_of}
 use lib.IntN.{ℤ, pos, ◌+ℤ◌, ◌*ℤ◌}
 use mir.Facts.{to_z-of_z}
 use mir.Syntax.{w64}
@@ -166,9 +166,10 @@ composed-requires c =
     let f = (there (goal.at.After-turn_of-rest b).After-turn_of-at).turn-fits in
     let g = (rest b).turn-fits in
     let h = turn-fits b in
-    record { turning = (simp plain
-    (turning s.args.period (map_of s.args.cells.now) (known s), (turn_near b ∴ simp ints (omega arith), omega (arith, below n, (known s).high)))).0; within = (simp plain
-    (turning s.args.period (map_of s.args.cells.now) (known s), (turn_near b ∴ simp ints (omega arith), omega (arith, below n, (known s).high)))).1 }
+    record {
+      turning = simp plain (turning s.args.period (map_of s.args.cells.now) (known s));
+      within = simp plain (turn_near b ∴ simp ints (omega arith), omega (arith, below n, (known s).high));
+    }
 
 pub returns : goal.returns
 returns c =

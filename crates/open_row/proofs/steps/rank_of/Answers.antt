@@ -63,9 +63,10 @@ composed-requires c =
     let q = s.ranges.total in
     let f = (there a).turn-fits in
     let few = total-turning s.args.period s.args.distance s.args.cells.now s.requires.sound in
-    record { turning = (simp plain
-    (s.requires.total_value ∴ few ∴ simp ints (omega arith), ((there a).near ∴ simp ints (omega arith), omega (arith, before-few (goal.at.composed-requires c).After-labelled_in-before)))).0; within = (simp plain
-    (s.requires.total_value ∴ few ∴ simp ints (omega arith), ((there a).near ∴ simp ints (omega arith), omega (arith, before-few (goal.at.composed-requires c).After-labelled_in-before)))).1 }
+    record {
+      turning = simp plain (s.requires.total_value ∴ few ∴ simp ints (omega arith));
+      within = simp plain ((there a).near ∴ simp ints (omega arith), omega (arith, before-few (goal.at.composed-requires c).After-labelled_in-before));
+    }
 
 pub returns : goal.returns
 returns c =
@@ -82,18 +83,13 @@ returns c =
     let e : c.composed.result ≡ s.args.total *ℤ turn +ℤ pos rest = simp plain at c.composed.ensures in
     let most = total-turning s.args.period s.args.distance l s.requires.sound in
     let total : Within (2 ^ 22) s.args.total = s.requires.total_value ∴ most ∴ simp ints (omega arith) in
-    let w = product-within (2 ^ 22) (2 ^ 33) s.args.total turn total (there a).near in record { value = ((
-      to_z-of_z r ∙ e ∙ ap (λ (z : ℤ). z *ℤ turn +ℤ pos rest) s.requires.total_value
+    let w = product-within (2 ^ 22) (2 ^ 33) s.args.total turn total (there a).near in
+    record {
+      value =
+          to_z-of_z r ∙ e ∙ ap (λ (z : ℤ). z *ℤ turn +ℤ pos rest) s.requires.total_value
           ∙ ap (λ (z : ℤ). pos (labelled_before l P) *ℤ z +ℤ pos rest) (there a).turn_is
           ∙ ap (λ (n : ℕ). pos (labelled_before l P) *ℤ floor_div s.args.t P +ℤ pos n)
           (before-is b ∙ ap (labelled_before l) (there a).cell-is)
-          ∙ sym (rank-row s.args.period l s.args.t),
-      simp plain (e ∴ w ∴ before-few b ∴ simp ints (omega arith)),
-    )).0; within_2 = ((
-      to_z-of_z r ∙ e ∙ ap (λ (z : ℤ). z *ℤ turn +ℤ pos rest) s.requires.total_value
-          ∙ ap (λ (z : ℤ). pos (labelled_before l P) *ℤ z +ℤ pos rest) (there a).turn_is
-          ∙ ap (λ (n : ℕ). pos (labelled_before l P) *ℤ floor_div s.args.t P +ℤ pos n)
-          (before-is b ∙ ap (labelled_before l) (there a).cell-is)
-          ∙ sym (rank-row s.args.period l s.args.t),
-      simp plain (e ∴ w ∴ before-few b ∴ simp ints (omega arith)),
-    )).1 }
+          ∙ sym (rank-row s.args.period l s.args.t);
+      within_2 = simp plain (e ∴ w ∴ before-few b ∴ simp ints (omega arith));
+    }

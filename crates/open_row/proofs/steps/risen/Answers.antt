@@ -3,7 +3,7 @@
 use mathlib.Core.Path.{◌≡◌, ◌∙◌, ap}
 use Prim.Native.Nat.{◌^◌}
 use native.Mathlib.Omega.{arith}
-use borrow.Author.Rules.{rules, sfits_of}
+use borrow.Author.Rules.{sfits_of}
 use lib.IntN.{pos, ◌-ℤ◌}
 use mir.Syntax.{w64}
 use mir.Val.{SFits}
@@ -34,7 +34,7 @@ rank_of-end-requires c =
     let d = s.ranges.distance in
     let t = s.ranges.t in
     let f : SFits w64 c.labelled_instants-total.result = sfits_of c.labelled_instants-total.type_inv in
-    record { sound = (simp plain (s.requires.sound, (total c, s.requires.within.1))).0; total_value = (simp plain (s.requires.sound, (total c, s.requires.within.1))).1; within = (simp plain (s.requires.sound, (total c, s.requires.within.1))).2 }
+    record { sound = simp plain s.requires.sound; total_value = simp plain (total c); within = simp plain s.requires.within.1 }
 
 pub rank_of-start-requires : goal.rank_of-start-requires
 rank_of-start-requires c =
@@ -44,7 +44,7 @@ rank_of-start-requires c =
     let d = s.ranges.distance in
     let t = s.ranges.s in
     let f : SFits w64 a.labelled_instants-total.result = sfits_of a.labelled_instants-total.type_inv in
-    record { sound = (simp plain (s.requires.sound, (total a, s.requires.within.0))).0; total_value = (simp plain (s.requires.sound, (total a, s.requires.within.0))).1; within = (simp plain (s.requires.sound, (total a, s.requires.within.0))).2 }
+    record { sound = simp plain s.requires.sound; total_value = simp plain (total a); within = simp plain s.requires.within.0 }
 
 end_is : (c : After-rank_of-end) → let s = (goal.at.After-rank_of-end c).Start in
     (c.rank_of-end.result ≡ rank (map s) s.args.t) × Within (2 ^ 60) c.rank_of-end.result
@@ -52,7 +52,7 @@ end_is c =
     let s = (goal.at.After-rank_of-end c).Start in
     let p = s.ranges.period in
     let t = s.ranges.t in
-    simp plain at c.rank_of-end.ensures
+    (simp plain at c.rank_of-end.ensures.value, c.rank_of-end.ensures.within_2)
 
 start_is : (c : After-rank_of-start) → let s = (goal.at.After-rank_of-start c).Start in
     (c.rank_of-start.result ≡ rank (map s) s.args.s) × Within (2 ^ 60) c.rank_of-start.result
@@ -60,7 +60,7 @@ start_is c =
     let s = (goal.at.After-rank_of-start c).Start in
     let p = s.ranges.period in
     let t = s.ranges.s in
-    simp plain at c.rank_of-start.ensures
+    (simp plain at c.rank_of-start.ensures.value, c.rank_of-start.ensures.within_2)
 
 difference-fits : (c : After-rank_of-start) → SFits w64 (c.rank_of-end.result -ℤ c.rank_of-start.result)
 difference-fits c = (end_is (goal.at.After-rank_of-start c).After-rank_of-end).1 ∴ (start_is c).1 ∴ simp ints (omega arith)
