@@ -3,13 +3,14 @@
 use borrow.Author.Rules.{rules, sfits_of}
 use mathlib.Core.Path.{◌≡◌, sym, ◌∙◌, ap}
 use mir.Facts.{to_z-of_z}
+use mir.Syntax.{w64}
 use Rattle.integers.proofs.Machine.{plain}
 use Rattle.codes.specs.Codes.{count_code}
 use Rattle.open_map.specs.Maps.{map_given}
 use Rattle.open_map.specs.Inquiries.{count_reply}
 use Rattle.open_map.specs.Answers.{number_reply}
 use Rattle.open_api.proofs.count.Goals as goal
-use Rattle.open_api.proofs.count.Goals.{After-count-counted, In-Is-2, In-Refused-2, Start}
+use Rattle.open_api.proofs.count.Goals.{After-count-counted, Start}
 
 replied : (c : After-count-counted) → let s = (goal.at.After-count-counted c).Start in
     number_reply c.count-counted.result ≡ count_reply (map_given s.args.period s.args.words.now) s.args.s s.args.t
@@ -22,12 +23,10 @@ replied c =
 
 pub returns-in-Is : goal.returns-in-Is
 returns-in-Is c =
-    let k = (goal.at.returns-in-Is c).In-Is-2 in
-    let e = sym (ap number_reply k.counted-1.given.1) ∙ replied (goal.at.In-Is-2 k).After-count-counted in
-    to_z-of_z (sfits_of c.known_told-1.given.0.1) ∙ ap count_code e
+    let e = sym (ap number_reply c.in-Is.is) ∙ replied (goal.at.returns-in-Is c).After-count-counted in
+    to_z-of_z {w = w64} (search rules) ∙ ap count_code e
 
 pub returns-in-Refused : goal.returns-in-Refused
 returns-in-Refused c =
-    let k = (goal.at.returns-in-Refused c).In-Refused-2 in
-    let e = sym (ap number_reply k.counted-in-Refused-1.given.1) ∙ replied (goal.at.In-Refused-2 k).After-count-counted in
+    let e = sym (ap number_reply c.in-Refused.is) ∙ replied (goal.at.returns-in-Refused c).After-count-counted in
     to_z-of_z {w = w64} (sfits_of c.refusal_code.type_inv) ∙ c.refusal_code.ensures ∙ ap count_code e

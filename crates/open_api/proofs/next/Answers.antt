@@ -1,8 +1,9 @@
 -- `open_api::next` meets its contract: the code and the instant of what `open_map::next` answers.
 -- Assumes nothing.
-use borrow.Author.Rules.{rules, sfits_of}
+use borrow.Author.Rules.{sfits_of}
 use mathlib.Core.Path.{◌≡◌, ◌∙◌, ap}
 use mir.Facts.{to_z-of_z}
+use mir.Syntax.{w64}
 use Rattle.integers.proofs.Machine.{plain}
 use Rattle.codes.specs.Codes.{value_code, value_left}
 use Rattle.open_map.specs.Maps.{map_given}

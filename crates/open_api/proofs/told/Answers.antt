@@ -3,16 +3,17 @@
 use borrow.Author.Rules.{rules, sfits_of}
 use mathlib.Core.Path.{sym, ◌∙◌, ap}
 use mir.Facts.{to_z-of_z}
+use mir.Syntax.{w64}
 use Rattle.codes.specs.Codes.{value_code, value_left}
 use Rattle.open_map.specs.Answers.{instant_reply}
 use Rattle.open_api.proofs.told.Goals as goal
 
 pub returns-in-At : goal.returns-in-At
 returns-in-At c =
-    let e = sym (ap instant_reply c.instant-1.given.1) in
-    record { code = ap value_code e; found = to_z-of_z (sfits_of c.known_told-1.given.0.1) ∙ ap value_left e }
+    let e = sym (ap instant_reply c.in-At.is) in
+    record { code = ap value_code e; found = to_z-of_z {w = w64} (search rules) ∙ ap value_left e }
 
 pub returns-in-Refused : goal.returns-in-Refused
 returns-in-Refused c =
-    let e = sym (ap instant_reply c.instant-in-Refused-1.given.1) in
+    let e = sym (ap instant_reply c.in-Refused.is) in
     record { code = to_z-of_z {w = w64} (sfits_of c.refusal_code.type_inv) ∙ c.refusal_code.ensures ∙ ap value_code e; found = ap value_left e }
