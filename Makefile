@@ -11,7 +11,7 @@ LIBRARIES = $(DESTDIR)$(PREFIX)/lib
 HEADERS = $(DESTDIR)$(PREFIX)/include
 
 all:
-	rt staticlib jogipahn
+	sh scripts/build archive
 
 $(ARCHIVE): all
 

@@ -33,7 +33,7 @@
  * (to one, where it has none), is aligned and is not null, even where the length is 0; the whole of a list is at most
  * 2^63 - 1 bytes; and what a function writes to overlaps nothing else that is passed to it.
  *
- * The functions are in the archive libjogipahn.a, which needs nothing but the C library; `rt staticlib jogipahn` writes
+ * The functions are in the archive libjogipahn.a, which needs nothing but the C library; `sh scripts/build archive` writes
  * it to target/staticlib, and `make install` puts it, this header and a pkg-config file where they are wanted. */
 #ifndef JOGIPAHN_H
 #define JOGIPAHN_H

@@ -8,7 +8,7 @@ use std::process::{exit, Command};
 const ARCHIVE: &str = "libjogipahn.a";
 
 const ADVICE: &str = "\
-Build the archive with `rt staticlib jogipahn` in the repository that this crate is a part of; or name the folder that
+Build the archive with `sh scripts/build archive` in the repository that this crate is a part of; or name the folder that
 holds libjogipahn.a in JOGIPAHN_LIB_DIR; or install it with `make install` and have pkg-config find jogipahn.pc.";
 
 fn main() {

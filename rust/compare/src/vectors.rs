@@ -107,14 +107,22 @@ pub fn source(cases: &[Case]) -> String {
     text
 }
 
-/// One number to a line, as `rt fmt` lays a long array out.
+/// As `rt fmt` lays a long array out: one number to a line, or as many as fit where none has more than ten digits.
 fn array<T: Display>(text: &mut String, name: &str, of: &str, numbers: impl Iterator<Item = T>) {
-    let numbers: Vec<T> = numbers.collect();
+    let numbers: Vec<String> = numbers.map(|number| format!(" {number},")).collect();
     writeln!(text, "\npub const {name}: [{of}; {}] = [", numbers.len()).unwrap();
+    let widest = numbers.iter().map(String::len).max().unwrap_or(0);
+    let most = if widest <= 12 { 100 } else { 0 };
+    let mut width = 0;
     for number in numbers {
-        writeln!(text, "    {number},").unwrap();
+        if width == 0 || width + number.len() > most {
+            text.push_str(if width == 0 { "   " } else { "\n   " });
+            width = 3;
+        }
+        text.push_str(&number);
+        width += number.len();
     }
-    text.push_str("];\n");
+    text.push_str("\n];\n");
 }
 
 fn bound(text: &mut String, name: &str, number: usize, of: &str) {
