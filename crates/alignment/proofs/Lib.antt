@@ -9,6 +9,7 @@
 --     Looks        a pass that is about to look at an instant
 --     Changes      a pass where every instant has a label, by the changes of b
 --     Codes        labels as numbers
+--     Read         the rows of a call, as their numbers are read back
 pub mod Pairs
 pub mod Fitting
 pub mod Choices
@@ -19,3 +20,4 @@ pub mod OneCell
 pub mod Looks
 pub mod Changes
 pub mod Codes
+pub mod Read

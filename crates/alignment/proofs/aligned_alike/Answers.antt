@@ -1,6 +1,5 @@
 -- `alignment::aligned_alike` meets its contract: rows whose labels rise apart are not aligned; with a row of one cell its labels tell.
 -- Assumes nothing.
-use borrow.Author.Rules.{rules}
 use borrow.Author.Tests.{not-false}
 use mathlib.Core.Path.{◌≡◌, sym, ◌∙◌, ap}
 use mathlib.Core.Bool.{true}
@@ -16,6 +15,7 @@ use Rattle.calendar.specs.Checks.{aligned_as}
 use Rattle.calendar.specs.Questions.{given}
 use Rattle.granules.proofs.Tests.{not_iff, equal-iff, test-ext}
 use Rattle.alignment.specs.Fits.{alignment_of}
+use Rattle.alignment.proofs.Read.{aligned-read}
 use Rattle.alignment.proofs.Choices.{outcome}
 use Rattle.alignment.proofs.Rising.{limited, unlike, alike}
 use Rattle.alignment.proofs.OneCell.{first-own, second-own, is-compatible}
@@ -34,7 +34,7 @@ rise_alike-requires s =
     let n = s.ranges.a_distance in
     let q = s.ranges.b_period in
     let m = s.ranges.b_distance in
-    record { limited = (simp plain (limited _ _ _ s.requires.sound, limited _ _ _ s.requires.sound_2)).0; limited_2 = (simp plain (limited _ _ _ s.requires.sound, limited _ _ _ s.requires.sound_2)).1 }
+    record { limited = simp plain (limited _ _ _ s.requires.sound); limited_2 = simp plain (limited _ _ _ s.requires.sound_2) }
 
 -- whether the labels rise alike
 rising : (c : After-rise_alike) → let a = c.args in c.rise_alike.result ≡ equal (a.a_distance *ℤ a.b_period) (a.b_distance *ℤ a.a_period)
@@ -71,7 +71,7 @@ is_along-requires c =
     let n = s.ranges.a_distance in
     let q = s.ranges.b_period in
     let m = s.ranges.b_distance in
-    record { sound = (simp plain ((s.requires.sound, a_one c), s.requires.sound_2)).0; sound_2 = (simp plain ((s.requires.sound, a_one c), s.requires.sound_2)).1 }
+    record { sound = simp plain (s.requires.sound, a_one c); sound_2 = simp plain s.requires.sound_2 }
 
 pub returns-then-a_period-eq1 : goal.returns-then-a_period-eq1
 returns-then-a_period-eq1 c =
@@ -94,7 +94,7 @@ is_along-requires-then-is_compatible c =
     let n = s.ranges.a_distance in
     let q = s.ranges.b_period in
     let m = s.ranges.b_distance in
-    record { sound = (simp plain ((s.requires.sound_2, b-one c), s.requires.sound)).0; sound_2 = (simp plain ((s.requires.sound_2, b-one c), s.requires.sound)).1 }
+    record { sound = simp plain (s.requires.sound_2, b-one c); sound_2 = simp plain s.requires.sound }
 
 pub returns-then-is_compatible : goal.returns-then-is_compatible
 returns-then-is_compatible c =
@@ -116,7 +116,7 @@ are_own-requires c =
     let n = s.ranges.a_distance in
     let q = s.ranges.b_period in
     let m = s.ranges.b_distance in
-    record { sound = (simp plain (s.requires.sound, s.requires.sound_2)).0; sound_2 = (simp plain (s.requires.sound, s.requires.sound_2)).1 }
+    record { sound = simp plain s.requires.sound; sound_2 = simp plain s.requires.sound_2 }
 
 pub returns-then-are_own : goal.returns-then-are_own
 returns-then-are_own c =
@@ -128,8 +128,7 @@ returns-then-are_own c =
     let n = s.ranges.a_distance in
     let q = s.ranges.b_period in
     let m = s.ranges.b_distance in
-    let e = simp plain at o.are_own.ensures in
-    sym (e c.if-are_own.true) ∙ ap (λ (k : O.Alignment). aligned_as k (row-a s) (row-b s)) (sym (is-compatible (alignment_of a.k) (outcome t.is_compatible-2.ensures t.if-is_compatible-2.true)))
+    sym (o.are_own.ensures c.if-are_own.true) ∙ aligned-read O.Alignment.compatible s.args.a_period s.args.a_distance s.args.b_period s.args.b_distance s.args.a_cells.now s.args.b_cells.now p n q m ∙ ap (λ (k : O.Alignment). aligned_as k (row-a s) (row-b s)) (sym (is-compatible (alignment_of a.k) (outcome t.is_compatible-2.ensures t.if-is_compatible-2.true)))
 
 pub pass-requires : goal.pass-requires
 pass-requires c =
@@ -144,7 +143,7 @@ pass-requires c =
     let r =
     alike a.a_period a.a_distance a.b_period a.b_distance a.a_cells.now a.b_cells.now s.requires.sound s.requires.sound_2 (alignment_of a.k)
     (rises e) in
-    record { sound = (simp plain (s.requires.sound, (s.requires.sound_2, (s.requires.spanned, r)))).0; sound_2 = (simp plain (s.requires.sound, (s.requires.sound_2, (s.requires.spanned, r)))).1; spanned = (simp plain (s.requires.sound, (s.requires.sound_2, (s.requires.spanned, r)))).2; rise_alike = (simp plain (s.requires.sound, (s.requires.sound_2, (s.requires.spanned, r)))).3 }
+    record { sound = simp plain s.requires.sound; sound_2 = simp plain s.requires.sound_2; spanned = simp plain s.requires.spanned; rise_alike = simp plain r }
 
 pub returns : goal.returns
 returns c =

@@ -3,13 +3,11 @@
 use mathlib.Core.Path.{sym, ◌∙◌, ap, subst}
 use Prim.Native.Nat.{◌^◌, ◌<◌}
 use native.Mathlib.Omega.{arith}
-use borrow.Author.Rules.{rules}
 use lib.IntN.{pos}
 use mir.Facts.{to_z_pos}
 use mir.Syntax.{w64}
 use Rattle.integers.proofs.Linear.{ints, ◌∴◌}
 use Rattle.calendar.specs.Questions.{given}
-use Rattle.cursors.specs.Search.{leading}
 use Rattle.cursors.proofs.Numbers.{numbers}
 use Rattle.row_check.proofs.Instants.{has-label}
 use Rattle.row_check.proofs.Leading.{leading-label}

@@ -3,9 +3,12 @@
 use mir.Syntax.{w64}
 use mir.Val.{to_z, of_z}
 use Rattle.integers.proofs.Machine.{plain}
+use Rattle.calendar.specs.Operation.Alignment.{partition}
 use Rattle.calendar.specs.Questions.{given}
 use Rattle.cursors.specs.Found.{Sound}
 use Rattle.alignment.specs.Pass.{Spanned}
+use mathlib.Core.Path.{◌∙◌}
+use Rattle.alignment.proofs.Read.{aligned-read}
 use Rattle.alignment.proofs.partitions.Goals as goal
 use Rattle.alignment.proofs.partitions.Goals.{After-is_whole, After-is_whole-then-is_whole, Start}
 
@@ -34,7 +37,7 @@ changes_with-requires c =
     let b = (goal.at.changes_with-requires c).After-is_whole-then-is_whole in
     let a = (goal.at.After-is_whole-then-is_whole b).After-is_whole in
     let h = as_read (goal.at.After-is_whole a).Start in
-    record { sound = ((h.0, (h.1, (h.2, (a.is_whole.ensures b.if-is_whole.true, b.is_whole-then-is_whole.ensures c.if-is_whole-2.true))))).0; sound_2 = ((h.0, (h.1, (h.2, (a.is_whole.ensures b.if-is_whole.true, b.is_whole-then-is_whole.ensures c.if-is_whole-2.true))))).1; spanned = ((h.0, (h.1, (h.2, (a.is_whole.ensures b.if-is_whole.true, b.is_whole-then-is_whole.ensures c.if-is_whole-2.true))))).2; whole = ((h.0, (h.1, (h.2, (a.is_whole.ensures b.if-is_whole.true, b.is_whole-then-is_whole.ensures c.if-is_whole-2.true))))).3; whole_2 = ((h.0, (h.1, (h.2, (a.is_whole.ensures b.if-is_whole.true, b.is_whole-then-is_whole.ensures c.if-is_whole-2.true))))).4 }
+    record { sound = h.0; sound_2 = h.1; spanned = h.2; whole = a.is_whole.ensures b.if-is_whole.true; whole_2 = b.is_whole-then-is_whole.ensures c.if-is_whole-2.true }
 
 pub returns-then-is_whole-2 : goal.returns-then-is_whole-2
 returns-then-is_whole-2 c =
@@ -43,12 +46,12 @@ returns-then-is_whole-2 c =
     let n = s.ranges.a_distance in
     let q = s.ranges.b_period in
     let m = s.ranges.b_distance in
-    simp plain at c.changes_with.ensures
+    c.changes_with.ensures ∙ aligned-read partition s.args.a_period s.args.a_distance s.args.b_period s.args.b_distance s.args.a_cells.now s.args.b_cells.now p n q m
 
 pub pass-requires : goal.pass-requires
 pass-requires c =
     let h = as_read (goal.at.pass-requires c).Start in
-    record { sound = ((h.0, (h.1, (h.2, tt)))).0; sound_2 = ((h.0, (h.1, (h.2, tt)))).1; spanned = ((h.0, (h.1, (h.2, tt)))).2; rise_alike = ((h.0, (h.1, (h.2, tt)))).3 }
+    record { sound = h.0; sound_2 = h.1; spanned = h.2; rise_alike = tt }
 
 pub returns : goal.returns
 returns c =
@@ -57,4 +60,4 @@ returns c =
     let n = s.ranges.a_distance in
     let q = s.ranges.b_period in
     let m = s.ranges.b_distance in
-    simp plain at c.pass.ensures
+    c.pass.ensures ∙ aligned-read partition s.args.a_period s.args.a_distance s.args.b_period s.args.b_distance s.args.a_cells.now s.args.b_cells.now p n q m

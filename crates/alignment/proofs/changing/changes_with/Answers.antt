@@ -7,11 +7,11 @@ use lib.Signed.{◌≤ℤ◌}
 use mir.Facts.{to_z-of_z}
 use mir.Syntax.{w64}
 use mir.Val.{to_z, of_z}
-use Rattle.integers.specs.Parts.{up}
 use Rattle.integers.proofs.Linear.{ints, ◌∴◌}
 use Rattle.integers.proofs.Machine.{plain, test-lt, test-not-lt}
 use Rattle.calendar.specs.Limits.{pool_limit}
 use Rattle.calendar.specs.Meaning.{Row, meant}
+use Rattle.calendar.specs.Operation.Alignment.{partition}
 use Rattle.calendar.specs.Lists.{same_label}
 use Rattle.calendar.specs.Questions.{given}
 use Rattle.granules.specs.Valid.{Valid}
@@ -20,6 +20,7 @@ use Rattle.cursors.specs.Cursor.{cursor_at}
 use Rattle.cursors.proofs.Numbers.{numbers, valid, read_as}
 use Rattle.strides.specs.Changes.{Changes}
 use Rattle.alignment.specs.Pass.{Spanned, Whole}
+use Rattle.alignment.proofs.Read.{aligned-read}
 use Rattle.alignment.proofs.Choices.{outcome}
 use Rattle.alignment.proofs.Starts.{left_less}
 use Rattle.alignment.proofs.Changes.{Reached, reached-start, change-beyond, change-alone, change-shared}
@@ -126,7 +127,7 @@ few c =
     n.high ∴ (change c).on ∴ (change c).near ∴ simp ints (omega arith)
 
 read : (c : Turned) → to_z w64 (of_z w64 (steps c)) ≡ steps c
-read c = to_z-of_z (few c ∴ simp ints (omega arith))
+read c = to_z-of_z {w = w64} (few c ∴ simp ints (omega arith))
 
 pub overflow_add-t : goal.overflow_add-t
 overflow_add-t c =
@@ -153,7 +154,7 @@ returns-then-t-span c =
     let e =
     change-beyond (a-row s) (b-row s) (a-rules s) (b-rules s) (a-whole s) (b-whole s) (at l) l.loop-t.invariant.2 d.next_change-change.result (change d)
     (beyond ∴ next-is d ∴ (spanned s).is-span ∴ simp ints (omega arith)) in
-    sym (simp plain at e)
+    sym (sym (aligned-read partition s.args.a_period s.args.a_distance s.args.b_period s.args.b_distance s.args.a_cells.now s.args.b_cells.now p n q m) ∙ e)
 
 -- ---- a's labels there and at the instant before
 -- how far that is
@@ -174,7 +175,7 @@ cursor_on-before-requires c =
     let l = (goal.at.After-next_change-change d).At-loop-t in
     let f = few d in
     let e = back_is d in
-    record { sound = ((a-sound (start l), ((at l, within l ∴ simp ints (omega arith), l.loop-t.invariant.0), f ∴ e ∴ simp ints (omega arith)))).0; standing = ((a-sound (start l), ((at l, within l ∴ simp ints (omega arith), l.loop-t.invariant.0), f ∴ e ∴ simp ints (omega arith)))).1; pos_bound = ((a-sound (start l), ((at l, within l ∴ simp ints (omega arith), l.loop-t.invariant.0), f ∴ e ∴ simp ints (omega arith)))).2 }
+    record { sound = a-sound (start l); standing = (at l, within l ∴ simp ints (omega arith), l.loop-t.invariant.0); pos_bound = f ∴ e ∴ simp ints (omega arith) }
 
 abbrev turned : After-cursor_on-before → Turned
 turned c = (goal.at.After-cursor_on-before c).After-next_change-change
@@ -187,13 +188,13 @@ last-near : (c : Turned) → Near (last c) × Near (last c +ℤ pos 1)
 last-near c = within (goal.at.After-next_change-change c).At-loop-t ∴ few c ∴ back_is c ∴ simp ints (omega arith)
 
 last-cursor : (c : After-cursor_on-before) → let d = turned c in c.cursor_on-before.result ≡ cursor_at (a-row (start (goal.at.After-next_change-change d).At-loop-t)) (last d)
-last-cursor c = let l = (turned c).before in c.cursor_on-before.ensures (at l) l.loop-t.inv.0
+last-cursor c = let l = (turned c).before in c.cursor_on-before.ensures (at l) l.loop-t.invariant.0
 
 pub cursor_label-o-requires : goal.cursor_label-o-requires
 cursor_label-o-requires c = let d = turned c in record { sound = a-sound (start (goal.at.After-next_change-change d).At-loop-t); standing = (last d, (last-near d).0, last-cursor c) }
 
 pub cursor_next-a-requires : goal.cursor_next-a-requires
-cursor_next-a-requires c κs = record { sound = (cursor_label-o-requires (goal.at.cursor_next-a-requires c).After-cursor_on-before κs).0; standing = (cursor_label-o-requires (goal.at.cursor_next-a-requires c).After-cursor_on-before κs).1 }
+cursor_next-a-requires c = let h = cursor_label-o-requires (goal.at.cursor_next-a-requires c).After-cursor_on-before in record { sound = h.sound; standing = h.standing }
 
 next-cursor : (c : After-cursor_next-a) → let d = turned (goal.at.After-cursor_next-a c).After-cursor_on-before in c.cursor_next-a.result ≡ cursor_at (a-row (start (goal.at.After-next_change-change d).At-loop-t)) (last d +ℤ pos 1)
 next-cursor c = let o = (goal.at.After-cursor_next-a c).After-cursor_on-before in c.cursor_next-a.ensures (last (turned o)) (last-cursor o)
@@ -216,7 +217,7 @@ same-is c =
 
 -- the change is within the span
 inner : (c : Compared) → let d = turned (on c) in next d ≤ℤ S (start (goal.at.After-next_change-change d).At-loop-t)
-inner c = let d = turned (on c) in (test-not-lt (S (start (goal.at.After-next_change-change d).At-loop-t)) (next d)).0 (on c).before.before.before.if1.false
+inner c = let d = turned (on c) in (test-not-lt (S (start (goal.at.After-next_change-change d).At-loop-t)) (next d)).0 c.if-t-span.false
 
 there : (c : Turned) → next c ≡ last c +ℤ pos 1
 there c = next-is c ∴ back_is c ∴ simp ints (omega arith)
@@ -231,10 +232,10 @@ returns-then-same c =
     let q = s.ranges.b_period in
     let m = s.ranges.b_distance in
     let e =
-    change-alone (a-row s) (b-row s) (a-rules s) (b-rules s) (a-whole s) (b-whole s) (at l) l.loop-t.inv.2 d.next_change-change.result (change d)
+    change-alone (a-row s) (b-row s) (a-rules s) (b-rules s) (a-whole s) (b-whole s) (at l) l.loop-t.invariant.2 d.next_change-change.result (change d)
     (last d) (last d +ℤ pos 1) (back_is d ∴ simp ints (omega arith)) (simp ints (omega arith)) (inner (goal.at.returns-then-same c).After-same ∴ there d ∴ (spanned s).is-span ∴ simp ints (omega arith))
     (outcome (same-is (goal.at.returns-then-same c).After-same) c.if-same.true) in
-    sym (simp plain at e)
+    sym (sym (aligned-read partition s.args.a_period s.args.a_distance s.args.b_period s.args.b_distance s.args.a_cells.now s.args.b_cells.now p n q m) ∙ e)
 
 -- ---- on from the change
 pub loop-t-smaller : goal.loop-t-smaller
@@ -251,7 +252,7 @@ loop-t-preserved c =
     let l = (goal.at.After-next_change-change d).At-loop-t in
     let s = start l in
     let w =
-    change-shared (a-row s) (b-row s) (a-rules s) (b-rules s) (a-whole s) (b-whole s) (at l) l.loop-t.inv.2 d.next_change-change.result (change d)
+    change-shared (a-row s) (b-row s) (a-rules s) (b-rules s) (a-whole s) (b-whole s) (at l) l.loop-t.invariant.2 d.next_change-change.result (change d)
     (last d) (last d +ℤ pos 1) (back_is d ∴ simp ints (omega arith)) (simp ints (omega arith)) (inner k ∴ there d ∴ (spanned s).is-span ∴ simp ints (omega arith))
     (outcome (same-is k) c.if-same.false) in (
       next-cursor (goal.at.After-same k).After-cursor_next-a ∙ ap (cursor_at (a-row s)) (sym (there d)),

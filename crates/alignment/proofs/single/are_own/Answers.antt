@@ -1,6 +1,5 @@
 -- `alignment::single::are_own` meets its contract.
 -- Assumes nothing.
-use borrow.Author.Rules.{rules}
 use mathlib.Core.Path.{refl}
 use native.Mathlib.Omega.{arith}
 use mir.Syntax.{w64}
@@ -26,10 +25,10 @@ returns-then-is_own c e =
     let n = s.ranges.a_distance in
     let q = s.ranges.b_period in
     let m = s.ranges.b_distance in
-    let f = simp plain at t.is_own.ensures in
-    let g = simp plain at c.is_own-then-is_own.ensures in
+    let f = simp plain at t.is_own.ensures.even in
+    let g = simp plain at c.is_own-then-is_own.ensures.even in
     let k = t.if-is_own.true in
-    both_own a.a_period a.a_distance a.b_period a.b_distance a.a_cells.now a.b_cells.now s.requires.sound s.requires.sound_2 (to_z w64 (of_z w64 t.first_of-first.result)) (f.0 k) (g.0 e) (f.1 k) (g.1 e)
+    both_own a.a_period a.a_distance a.b_period a.b_distance a.a_cells.now a.b_cells.now s.requires.sound s.requires.sound_2 (to_z w64 (of_z w64 t.first_of-first.result)) (f k) (g e) (t.is_own.ensures.along k) (c.is_own-then-is_own.ensures.along e)
 
 pub returns-else-is_own : goal.returns-else-is_own
 returns-else-is_own c e = absurd (true≢false e refl)

@@ -1,6 +1,5 @@
 -- `alignment::single::is_own` meets its contract.
 -- Assumes nothing.
-use borrow.Author.Rules.{rules}
 use borrow.Author.Tests.{not-false}
 use mathlib.Core.Path.{refl, sym, ◌∙◌}
 use native.Mathlib.Omega.{arith}
@@ -43,7 +42,7 @@ others-requires c =
     let f = s.ranges.first in
     let g = small c in
     let n = numbers s.args.period s.args.distance s.args.cells.now s.requires in
-    record { within = (simp plain (within c, omega (arith, n.whole, n.high))).0; cells_len_bound = (simp plain (within c, omega (arith, n.whole, n.high))).1 }
+    record { within = simp plain (within c); cells_len_bound = omega (arith, n.whole, n.high) }
 
 pub returns : goal.returns
 returns c =
