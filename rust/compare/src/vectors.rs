@@ -112,7 +112,7 @@ fn array<T: Display>(text: &mut String, name: &str, of: &str, numbers: impl Iter
     let numbers: Vec<String> = numbers.map(|number| format!(" {number},")).collect();
     writeln!(text, "\npub const {name}: [{of}; {}] = [", numbers.len()).unwrap();
     let widest = numbers.iter().map(String::len).max().unwrap_or(0);
-    let most = if widest <= 12 { 100 } else { 0 };
+    let most = if widest <= 12 { 99 } else { 0 };
     let mut width = 0;
     for number in numbers {
         if width == 0 || width + number.len() > most {
