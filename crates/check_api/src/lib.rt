@@ -1,4 +1,4 @@
-// The check of finished lists in plain numbers, as C takes it: `jogipahn` hands it on under its name for C.
+// The check of finished lists in plain numbers, as C takes it: `jogipahn_c` hands it on under its name for C.
 
 #![tactic(auto)]
 

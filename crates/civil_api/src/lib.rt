@@ -1,4 +1,4 @@
-// The civil calendar in plain numbers, as C takes it: `jogipahn` hands each function on under its name for C.
+// The civil calendar in plain numbers, as C takes it: `jogipahn_c` hands each function on under its name for C.
 
 #![tactic(auto)]
 

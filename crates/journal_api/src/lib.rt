@@ -1,4 +1,4 @@
-// A journal in plain numbers, as C takes it: `jogipahn` hands each function on under its name for C.
+// A journal in plain numbers, as C takes it: `jogipahn_c` hands each function on under its name for C.
 
 #![tactic(auto)]
 

@@ -1,4 +1,4 @@
-// Questions to a row in plain numbers, as C takes them: `jogipahn` hands each function on under its name for C. Each answers
+// Questions to a row in plain numbers, as C takes them: `jogipahn_c` hands each function on under its name for C. Each answers
 // with one number, a refusal's being below zero; what else there is to say is left in the lists and behind the references.
 
 #![tactic(auto)]

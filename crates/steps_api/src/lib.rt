@@ -1,4 +1,4 @@
-// Walks in plain numbers, as C takes them: `jogipahn` hands each function on under its name for C.
+// Walks in plain numbers, as C takes them: `jogipahn_c` hands each function on under its name for C.
 
 #![tactic(auto)]
 

@@ -1,4 +1,4 @@
-// The conversion of a table and the sheet of a text in plain numbers, as C takes them: `jogipahn` hands each function on
+// The conversion of a table and the sheet of a text in plain numbers, as C takes them: `jogipahn_c` hands each function on
 // under its name for C.
 
 #![tactic(auto)]
