@@ -11,11 +11,11 @@ use mir.Val.{to_z, of_z, SFits}
 use Rattle.integers.proofs.Linear.{ints, ◌∴◌}
 use Rattle.integers.proofs.Machine.{plain, test-eq}
 use Rattle.integers.proofs.Order.{≤ℤ-antisym, le-or-lt}
-use Rattle.granules.proofs.Tests.{false-iff, eqb-iff}
+use Rattle.granules.proofs.Tests.{false-iff}
 use Rattle.candidates.proofs.Positions.{asked, asked-iff}
 use Rattle.candidates.proofs.Tallying.{tally-passed, tally-next, tally-one, tally-low}
 use Rattle.candidates.proofs.counted.Goals as goal
-use Rattle.candidates.proofs.counted.Goals.{Else-high-count, Start}
+use Rattle.candidates.proofs.counted.Goals.{then-count-eq1-via-then-count-eq1, then-count-eq1-via-else-count-eq1+then-count-low-2, Else-high-count, Start}
 
 -- the numbers of the tally fit, and so does the next position
 count_fits : (s : Start) → SFits w64 s.args.t.count
@@ -23,9 +23,6 @@ count_fits s = s.requires.0 ∴ s.requires.1 ∴ simp ints (omega arith)
 
 next_fits : (s : Start) → SFits w64 (s.args.t.count +ℤ pos 1)
 next_fits s = s.requires.0 ∴ s.requires.1 ∴ simp ints (omega arith)
-
-pub overflow_add-count : goal.overflow_add-count
-overflow_add-count c = let f = count_fits (goal.at.overflow_add-count c).Start in simp plain (next_fits (goal.at.overflow_add-count c).Start)
 
 -- a position that is not asked for
 before-asked : (lo hi p : ℤ) → p <ℤ lo → asked lo hi p ≡ false
@@ -85,11 +82,10 @@ returns-then-count-eq1 c l e =
     let f = count_fits s in
     let g = next_fits s in
     let j = s.ranges.j in
-    simp plain
-    (⊎_elim
-    (λ w. tally-one s.args.low s.args.high s.args.j l s.args.t e _ refl (next-asked d) ((one-test d).0 w.taken))
-    (λ w. tally-low s.args.low s.args.high s.args.j l s.args.t e _ refl (next-asked d) ((low-test d).0 ((eqb-iff _ _).0 w.1.taken)))
-    c.then-count-eq1.branch-raw)
+    elim c.then-count-eq1.branch [
+      | then-count-eq1-via-then-count-eq1 w ↦ simp plain (tally-one s.args.low s.args.high s.args.j l s.args.t e _ refl (next-asked d) ((one-test d).0 w.if-count-eq1.true))
+      | then-count-eq1-via-else-count-eq1+then-count-low-2 w ↦ simp plain (tally-low s.args.low s.args.high s.args.j l s.args.t e _ refl (next-asked d) ((low-test d).0 w.if-count-low-2.true))
+    ]
 
 above : {x y : ℤ} → y ≤ℤ x → ¬ (x ≡ y) → y <ℤ x
 above {x} {y} h f = ⊎_elim (λ (g : x ≤ℤ y). absurd (f (≤ℤ-antisym g h))) (λ g. g) (le-or-lt x y)
@@ -101,6 +97,6 @@ returns-else-count-low-2 c l e =
     let f = count_fits s in
     let g = next_fits s in
     let j = s.ranges.j in
-    let one = above (s.pre.0 ∴ simp ints (omega arith)) (λ e. c.if-count-eq1.false ((one-test d).1 e)) in
-    let low = above ((asked-iff _ _ _).0 (next-asked d)).0 (λ e. (false-iff (eqb-iff _ _)).0 c.if-count-low-2.false-raw ((low-test d).1 e)) in
+    let one = above (s.requires.0 ∴ simp ints (omega arith)) (λ e. c.if-count-eq1.false ((one-test d).1 e)) in
+    let low = above ((asked-iff _ _ _).0 (next-asked d)).0 (λ e. c.if-count-low-2.false ((low-test d).1 e)) in
     simp plain (tally-next s.args.low s.args.high s.args.j l s.args.t e _ refl (next-asked d) one low)

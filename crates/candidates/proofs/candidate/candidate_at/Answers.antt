@@ -1,9 +1,8 @@
 -- `candidates::candidate::candidate_at` meets its contract: by what t says of b's granule, and then whether a's granule is in question.
 -- Assumes nothing.
-use borrow.Author.Rules.{rules, sfits_of}
-use mathlib.Core.Path.{◌≡◌, sym, ◌∙◌, ap, subst}
-use mathlib.Core.Logic.{inl, inr, ⊎_elim}
-use mathlib.Core.Option.{some}
+use borrow.Author.Rules.{rules}
+use mathlib.Core.Path.{◌≡◌, sym, ◌∙◌, subst}
+use mathlib.Core.Logic.{inl, inr}
 use lib.IntN.{ℤ}
 use mir.Facts.{to_z-of_z}
 use mir.Syntax.{w64}
@@ -21,24 +20,13 @@ use Rattle.containment.proofs.Places.{overlaps}
 use Rattle.candidates.specs.declared.candidate.Candidate.TheVariants.{Passed, Next}
 use Rattle.candidates.specs.Tallies.{counts, New, CandidateAt}
 use Rattle.candidates.proofs.candidate.candidate_at.Goals as goal
-use Rattle.candidates.proofs.candidate.candidate_at.Goals.{After-counts_at-in_question, After-seen_at-seen, In-Of, Joined-looked, Start}
+use Rattle.candidates.proofs.candidate.candidate_at.Goals.{then-looked+else-j-latest, else-looked, After-counts_at-in_question, After-seen_at-seen, In-Of, Joined-looked, Start}
 
 abbrev a-row : Start → Row
 a-row s = given s.args.a_period s.args.a_distance s.args.a_cells.now
 
 abbrev b-row : Start → Row
 b-row s = given s.args.b_period s.args.b_distance s.args.b_cells.now
-
--- ---- what t says of b's granule
-pub seen_at-seen-requires : goal.seen_at-seen-requires
-seen_at-seen-requires s =
-    let p = s.ranges.a_period in
-    let n = s.ranges.a_distance in
-    let q = s.ranges.b_period in
-    let m = s.ranges.b_distance in
-    let t = s.ranges.t in
-    let l = s.requires.within in
-    record { sound = (simp plain (s.requires.sound_2, (s.requires.sound, (l.0, (l.1.1, l.1.0))))).0; sound_2 = (simp plain (s.requires.sound_2, (s.requires.sound, (l.0, (l.1.1, l.1.0))))).1; within = (simp plain (s.requires.sound_2, (s.requires.sound, (l.0, (l.1.1, l.1.0))))).2; a_value = (simp plain (s.requires.sound_2, (s.requires.sound, (l.0, (l.1.1, l.1.0))))).3; b_value = (simp plain (s.requires.sound_2, (s.requires.sound, (l.0, (l.1.1, l.1.0))))).4 }
 
 abbrev Says : After-seen_at-seen → Seen → Type 0
 Says c x = let s = (goal.at.After-seen_at-seen c).Start in SeenAt (b-row s) (a-row s) s.args.i s.args.t x
@@ -54,35 +42,17 @@ says c =
     let t = s.ranges.t in
     simp plain at c.seen_at-seen.ensures
 
-pub returns-in-Off : goal.returns-in-Off
-returns-in-Off c = let d = (goal.at.returns-in-Off c).After-seen_at-seen in inl (subst (Says d) c.enum_told-1.given.1 (says d))
-
-pub returns-in-Bare : goal.returns-in-Bare
-returns-in-Bare c =
-    let d = (goal.at.returns-in-Bare c).After-seen_at-seen in
-    let y = subst (Says d) c.enum_told-in-Bare-1.given.1 (says d) in
-    inr (y.0, inl y.1)
-
-pub returns-in-Over : goal.returns-in-Over
-returns-in-Over c = let d = (goal.at.returns-in-Over c).After-seen_at-seen in subst (Says d) c.enum_told-in-Over-1.given.1 (says d)
-
 abbrev start : In-Of → Start
 start c = (goal.at.In-Of c).Start
 
 abbrev label : In-Of → ℤ
-label c = c.seen-1.given.0.0
+label c = c.in-Of.j
 
 label-fits : (c : In-Of) → SFits w64 (label c)
-label-fits c = sfits_of c.known_told-1.given.0.1
+label-fits c = search rules
 
 labels : (c : In-Of) → Says (goal.at.In-Of c).After-seen_at-seen (Of (label c))
-labels c = let d = (goal.at.In-Of c).After-seen_at-seen in subst (Says d) c.seen-1.given.1 (says d)
-
-pub returns-then-j-latest : goal.returns-then-j-latest
-returns-then-j-latest c =
-    let d = (goal.at.returns-then-j-latest c).In-Of in
-    let y = labels d in
-    inr (y.0, inr (c.if-looked.true, y.1 ∙ ap some ((test-eq w64 _ _ (label-fits d) (start d).ranges.latest).0 c.if-j-latest.true)))
+labels c = let d = (goal.at.In-Of c).After-seen_at-seen in subst (Says d) c.in-Of.is (says d)
 
 -- ---- whether that is in question
 abbrev place : In-Of → CursorPair
@@ -95,9 +65,9 @@ placed c =
     let v = valid s.args.a_period s.args.a_distance s.args.a_cells.now s.requires.sound in
     overlaps (a-row s) (b-row s) v (place c) s.args.t l.0 l.1 s.requires.a_value (labels c).1 s.requires.b_value (labels c).0
 
-pub counts_at-in_question-requires : goal.counts_at-in_question-requires
-counts_at-in_question-requires c =
-    let d = (goal.at.counts_at-in_question-requires c).In-Of in
+pub counts_at-in_question-requires-clause-overlaps : goal.counts_at-in_question-requires-clause-overlaps
+counts_at-in_question-requires-clause-overlaps c =
+    let d = (goal.at.counts_at-in_question-requires-clause-overlaps c).In-Of in
     let s = start d in
     let p = s.ranges.a_period in
     let n = s.ranges.a_distance in
@@ -105,7 +75,7 @@ counts_at-in_question-requires c =
     let m = s.ranges.b_distance in
     let i = s.ranges.i in
     let k = label-fits d in
-    record { sound = (simp plain (s.requires.sound, (s.requires.sound_2, placed d))).0; sound_2 = (simp plain (s.requires.sound, (s.requires.sound_2, placed d))).1; overlaps = (simp plain (s.requires.sound, (s.requires.sound_2, placed d))).2 }
+    simp plain (placed d)
 
 counts-is : (c : After-counts_at-in_question) → let d = (goal.at.After-counts_at-in_question c).In-Of in let s = start d in c.counts_at-in_question.result ≡ counts s.args.whole (a-row s) (b-row s) s.args.i (label d)
 counts-is c =
@@ -123,7 +93,7 @@ counts-is c =
 new : (c : Joined-looked) → let d = (goal.at.Joined-looked c).In-Of in New (start d).args.looked (start d).args.latest (label d)
 new c =
     let d = (goal.at.Joined-looked c).In-Of in
-    ⊎_elim (λ w. inr (λ e. w.1.left ((test-eq w64 _ _ (label-fits d) (start d).ranges.latest).1 e))) (λ w. inl w.left) c.if-looked.branch-raw
+    elim c.if-looked.branch [ then-looked+else-j-latest w ↦ inr (λ e. w.if-j-latest.false ((test-eq w64 _ _ (label-fits d) (start d).ranges.latest).1 e)) | else-looked w ↦ inl w.if-looked.false ]
 
 pub returns-then-in_question : goal.returns-then-in_question
 returns-then-in_question c =

@@ -22,24 +22,6 @@ use Rattle.candidates.proofs.ends.began.Goals.{After-first_instant-at, Start}
 abbrev row : Start → Row
 row s = given s.args.g_period s.args.g_distance s.args.g_cells.now
 
-pub returns-then-fresh : goal.returns-then-fresh
-returns-then-fresh c =
-    let s = (goal.at.returns-then-fresh c).Start in
-    let t = s.ranges.t in
-    let k = s.requires.g_value in
-    let n : Within (2 ^ 58) s.args.t = s.requires.within ∴ simp ints (omega arith) in
-    record { at = (simp plain (k.1.1 c.if-fresh.true, (k.0, (k.1.0, n)))).0; own = (simp plain (k.1.1 c.if-fresh.true, (k.0, (k.1.0, n)))).1; other = (simp plain (k.1.1 c.if-fresh.true, (k.0, (k.1.0, n)))).2; near = (simp plain (k.1.1 c.if-fresh.true, (k.0, (k.1.0, n)))).3 }
-
--- ---- where t may be another
-pub first_instant-at-requires : goal.first_instant-at-requires
-first_instant-at-requires c =
-    let s = (goal.at.first_instant-at-requires c).Start in
-    let p = s.ranges.g_period in
-    let n = s.ranges.g_distance in
-    let t = s.ranges.t in
-    let w = s.requires.within in
-    record { sound = (simp plain (s.requires.sound, ((s.args.j, s.requires.t_value), (w ∴ simp ints (omega arith), w ∴ simp ints (omega arith))))).0; labelled = (simp plain (s.requires.sound, ((s.args.j, s.requires.t_value), (w ∴ simp ints (omega arith), w ∴ simp ints (omega arith))))).1 }
-
 abbrev end : After-first_instant-at → ℤ
 end c = c.first_instant-at.result
 
@@ -62,30 +44,17 @@ near c =
 fits : (c : After-first_instant-at) → SFits w64 (end c)
 fits c = sfits_of c.first_instant-at.type_inv
 
-pub cursor_at-own-requires : goal.cursor_at-own-requires
-cursor_at-own-requires c =
-    let s = (goal.at.cursor_at-own-requires c).Start in
-    let p = s.ranges.g_period in
-    let n = s.ranges.g_distance in
-    let v = fits c in
-    record { sound = (simp plain (s.requires.sound, near c ∴ simp ints (omega arith))).0; near = (simp plain (s.requires.sound, near c ∴ simp ints (omega arith))).1 }
+pub cursor_at-own-requires-clause-near : goal.cursor_at-own-requires-clause-near
+cursor_at-own-requires-clause-near c = let v = fits c in simp plain (near c ∴ simp ints (omega arith))
 
-pub cursor_at-other-requires : goal.cursor_at-other-requires
-cursor_at-other-requires c =
-    let d = (goal.at.cursor_at-other-requires c).After-first_instant-at in
-    let s = (goal.at.After-first_instant-at d).Start in
-    let p = s.ranges.h_period in
-    let n = s.ranges.h_distance in
+pub cursor_at-other-requires-clause-near : goal.cursor_at-other-requires-clause-near
+cursor_at-other-requires-clause-near c =
+    let d = (goal.at.cursor_at-other-requires-clause-near c).After-first_instant-at in
     let v = fits d in
-    record { sound = (simp plain (s.requires.sound_2, near d ∴ simp ints (omega arith))).0; near = (simp plain (s.requires.sound_2, near d ∴ simp ints (omega arith))).1 }
+    simp plain (near d ∴ simp ints (omega arith))
 
-pub returns : goal.returns
-returns c =
-    let d = (goal.at.returns c).After-first_instant-at in
-    let s = (goal.at.After-first_instant-at d).Start in
-    let p = s.ranges.g_period in
-    let n = s.ranges.g_distance in
-    let q = s.ranges.h_period in
-    let m = s.ranges.h_distance in
+pub returns-clause-near : goal.returns-clause-near
+returns-clause-near c =
+    let d = (goal.at.returns-clause-near c).After-first_instant-at in
     let v = fits d in
-    record { at = (simp plain (end_is d, (simp plain at c.cursor_at-own.ensures, (simp plain at c.cursor_at-other.ensures, near d)))).0; own = (simp plain (end_is d, (simp plain at c.cursor_at-own.ensures, (simp plain at c.cursor_at-other.ensures, near d)))).1; other = (simp plain (end_is d, (simp plain at c.cursor_at-own.ensures, (simp plain at c.cursor_at-other.ensures, near d)))).2; near = (simp plain (end_is d, (simp plain at c.cursor_at-own.ensures, (simp plain at c.cursor_at-other.ensures, near d)))).3 }
+    simp plain (near d)
