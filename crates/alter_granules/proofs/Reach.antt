@@ -54,10 +54,10 @@ module _ (by : Alteration) (a b : Row) (given : Altering by a b) (dense-a : a.di
   coarse-at-most = rw (coarse-is a b (up by.x)) (lcm-at-most (rise_coarse a b) (up by.x))
 
   A-high : rise_coarse a b ≤ pool_limit
-  A-high = omega (arith, rise-at-most (turn b) (span_of (turn a) (turn b)) dense-b, given.1.at_most)
+  A-high = omega (arith, rise-at-most (turn b) (span_of (turn a) (turn b)) dense-b, given.1.at-most)
 
   B-high : rise_fine a b ≤ pool_limit
-  B-high = omega (arith, rise-at-most (turn a) (span_of (turn a) (turn b)) dense-a, given.1.at_most)
+  B-high = omega (arith, rise-at-most (turn a) (span_of (turn a) (turn b)) dense-a, given.1.at-most)
 
   -- n/A
   turns-high : coarse (turn a) (turn b) (up by.x) / rise_coarse a b ≤ 1000000
@@ -109,7 +109,7 @@ module _ (by : Alteration) (a b : Row) (given : Altering by a b) (dense-a : a.di
       let v = (known by a b given).valid in
       let d : A ∣ n = rw (coarse-is a b (up by.x)) (lcm-dvd A (up by.x)).0 in
       let r = rise-positive-right a b v.0 v.1 in
-      reached S A (n / A) n t i u k lo hi h g r (mul-div_cancel' A d) given.1.at_most turns-high
+      reached S A (n / A) n t i u k lo hi h g r (mul-div_cancel' A d) given.1.at-most turns-high
       (behind-spans (negsuc 0) t i u k e f) (before-spans (pos (4 * (n / A) + 1)) t i u k e f)
 
 -- n and D as the code has them

@@ -79,16 +79,11 @@ rise_over-rise-requires c =
     let d = s.ranges.b_distance in
     let few : up s.args.b_distance ≤ pool_limit = omega (arith, n.middle, n.high) in
     let some-period : 1 ≤ up s.args.b_period = omega (arith, n.low, n.middle) in
-    record { pos_bound = (simp plain (
-      (e.is-span ∴ simp ints (omega arith), e.at-most),
-      (n.period-is ∴ some-period ∴ simp ints (omega arith), (n.distance_is ∴ simp ints (omega arith), n.distance_is ∴ few ∴ simp ints (omega arith))),
-    )).0; pos_bound_2 = (simp plain (
-      (e.is-span ∴ simp ints (omega arith), e.at-most),
-      (n.period-is ∴ some-period ∴ simp ints (omega arith), (n.distance_is ∴ simp ints (omega arith), n.distance_is ∴ few ∴ simp ints (omega arith))),
-    )).1; pos_bound_3 = (simp plain (
-      (e.is-span ∴ simp ints (omega arith), e.at-most),
-      (n.period-is ∴ some-period ∴ simp ints (omega arith), (n.distance_is ∴ simp ints (omega arith), n.distance_is ∴ few ∴ simp ints (omega arith))),
-    )).2 }
+    record {
+      pos_bound = simp plain (e.is-span ∴ simp ints (omega arith), e.at-most);
+      pos_bound_2 = simp plain (n.period-is ∴ some-period ∴ simp ints (omega arith));
+      pos_bound_3 = simp plain (n.distance_is ∴ simp ints (omega arith), n.distance_is ∴ few ∴ simp ints (omega arith));
+    }
 
 abbrev begun : After-rise_over-rise → Start
 begun c = (goal.at.After-rise_over-rise c).Start
@@ -118,7 +113,10 @@ common-common-requires c =
     let s = begun (goal.at.common-common-requires c).After-rise_over-rise in
     let f = rise-fits (goal.at.common-common-requires c).After-rise_over-rise in
     let x = x_fits s in
-    record { pos_bound = (simp plain (rise-is (goal.at.common-common-requires c).After-rise_over-rise ∴ simp ints (omega arith), x-positive s)).0; pos_bound_2 = (simp plain (rise-is (goal.at.common-common-requires c).After-rise_over-rise ∴ simp ints (omega arith), x-positive s)).1 }
+    record {
+      pos_bound = simp plain (rise-is (goal.at.common-common-requires c).After-rise_over-rise ∴ simp ints (omega arith));
+      pos_bound_2 = simp plain (x-positive s);
+    }
 
 -- ---- the divisor
 abbrev divisor : Start → ℕ
@@ -142,7 +140,10 @@ instant_zero-t-requires c =
     let s = begun (goal.at.instant_zero-t-requires c).After-rise_over-rise in
     let p = s.ranges.b_period in
     let d = s.ranges.b_distance in
-    record { sound = (simp plain (s.requires.sound_2, (emptiable s).full.1)).0; full = (simp plain (s.requires.sound_2, (emptiable s).full.1)).1 }
+    record {
+      sound = simp plain s.requires.sound_2;
+      full = simp plain ((emptiable s).full.1);
+    }
 
 abbrev first : After-instant_zero-t → Start
 first c = begun (goal.at.After-instant_zero-t c).After-rise_over-rise
@@ -163,7 +164,14 @@ begin_at-start-requires c =
     let m = s.ranges.b_distance in
     let t : SFits w64 c.instant_zero-t.result = sfits_of c.instant_zero-t.type_inv in
     let e = zero-label c in
-    record { sound = (simp plain (s.requires.sound, (s.requires.sound_2, ((emptiable s).full, ((emptiable s).partition, (e.1, (pos 0, e.0))))))).0; sound_2 = (simp plain (s.requires.sound, (s.requires.sound_2, ((emptiable s).full, ((emptiable s).partition, (e.1, (pos 0, e.0))))))).1; full = (simp plain (s.requires.sound, (s.requires.sound_2, ((emptiable s).full, ((emptiable s).partition, (e.1, (pos 0, e.0))))))).2; partition = (simp plain (s.requires.sound, (s.requires.sound_2, ((emptiable s).full, ((emptiable s).partition, (e.1, (pos 0, e.0))))))).3; within = (simp plain (s.requires.sound, (s.requires.sound_2, ((emptiable s).full, ((emptiable s).partition, (e.1, (pos 0, e.0))))))).4; t_value = (simp plain (s.requires.sound, (s.requires.sound_2, ((emptiable s).full, ((emptiable s).partition, (e.1, (pos 0, e.0))))))).5 }
+    record {
+      sound = simp plain s.requires.sound;
+      sound_2 = simp plain s.requires.sound_2;
+      full = simp plain ((emptiable s).full);
+      partition = simp plain ((emptiable s).partition);
+      within = simp plain e.1;
+      t_value = simp plain (pos 0, e.0);
+    }
 
 -- ---- the pass
 abbrev zero : After-begin_at-start → After-instant_zero-t
@@ -208,7 +216,11 @@ some_short-requires c =
     let m = s.ranges.b_distance in
     let g = common-fits d in
     let f = rise-fits d.before.before in
-    record { sound = (simp plain (s.requires.sound, (s.requires.sound_2, passable c))).0; sound_2 = (simp plain (s.requires.sound, (s.requires.sound_2, passable c))).1; passable = (simp plain (s.requires.sound, (s.requires.sound_2, passable c))).2 }
+    record {
+      sound = simp plain s.requires.sound;
+      sound_2 = simp plain s.requires.sound_2;
+      passable = simp plain (passable c);
+    }
 
 passed : (c : After-some_short) → let b = (goal.at.After-some_short c).After-begin_at-start in let d = (zero b).before in let s = first (zero b) in
     c.some_short.result

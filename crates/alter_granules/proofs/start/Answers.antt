@@ -71,7 +71,13 @@ advance_to-walk-requires c =
     let j = j-fits c in
     let low : begins s.args.by (a-row s) (b-row s) (walk c).label ≤ℤ (first c).j = h.reached ∴ same c ∴ simp ints (omega arith) in
     let high : (first c).j <ℤ (walk c).end = same c ∴ start-before s.args.by s.args.repeat (a-row s) (b-row s) g (walk c) h ∴ simp ints (omega arith) in
-    record { sound = (simp plain (s.requires.sound, (s.requires.sound_2, ((s.args.repeat, g), (h.walk, (low, high)))))).0; sound_2 = (simp plain (s.requires.sound, (s.requires.sound_2, ((s.args.repeat, g), (h.walk, (low, high)))))).1; altering = (simp plain (s.requires.sound, (s.requires.sound_2, ((s.args.repeat, g), (h.walk, (low, high)))))).2; coarse_walk = (simp plain (s.requires.sound, (s.requires.sound_2, ((s.args.repeat, g), (h.walk, (low, high)))))).3; label_bound = (simp plain (s.requires.sound, (s.requires.sound_2, ((s.args.repeat, g), (h.walk, (low, high)))))).4 }
+    record {
+      sound = simp plain s.requires.sound;
+      sound_2 = simp plain s.requires.sound_2;
+      altering = simp plain (s.args.repeat, g);
+      coarse_walk = simp plain h.walk;
+      label_bound = simp plain (low, high);
+    }
 
 pub returns : goal.returns
 returns c =
@@ -86,10 +92,7 @@ returns c =
     let v = w.advance_to-walk.result in
     let e : CoarseWalk s.args.by (a-row s) (b-row s) v × (Holds s.args.by (a-row s) (b-row s) (first d).j v.label × (v.end ≡ (walk d).end)) = simp plain at w.advance_to-walk.ensures in
     let has = subst (λ (i : ℤ). Holds s.args.by (a-row s) (b-row s) i v.label) (sym (same d)) e.1.0 in
-    let on = start-on s.args.by s.args.repeat (a-row s) (b-row s) s.requires.alterable (walk d) v (starts d) e.0 has e.1.1 in record { follows = ((
-      follows-start s.args.by s.args.repeat (a-row s) (b-row s) s.requires.alterable v c.cursor_at.result on (simp plain at c.cursor_at.ensures),
-      passed_start s.args.by s.args.repeat (a-row s) (b-row s) s.requires.alterable (walk d) v (starts d) e.0 has,
-    )).0; passed = ((
-      follows-start s.args.by s.args.repeat (a-row s) (b-row s) s.requires.alterable v c.cursor_at.result on (simp plain at c.cursor_at.ensures),
-      passed_start s.args.by s.args.repeat (a-row s) (b-row s) s.requires.alterable (walk d) v (starts d) e.0 has,
-    )).1 }
+    let on = start-on s.args.by s.args.repeat (a-row s) (b-row s) s.requires.alterable (walk d) v (starts d) e.0 has e.1.1 in record {
+      follows = follows-start s.args.by s.args.repeat (a-row s) (b-row s) s.requires.alterable v c.cursor_at.result on (simp plain at c.cursor_at.ensures);
+      passed = passed_start s.args.by s.args.repeat (a-row s) (b-row s) s.requires.alterable (walk d) v (starts d) e.0 has;
+    }

@@ -51,7 +51,11 @@ returns-then-j-from c =
     let n = next_fits (goal.at.returns-then-j-from c).After-struct_told-1 in
     let j = s.ranges.j in
     let h : s.args.j <ℤ s.args.from.next = simp plain at c.if-j-from.true in
-    record { walks = ((w, ((low s, w.next ∴ h ∴ simp ints (omega arith)), refl))).0; has = ((w, ((low s, w.next ∴ h ∴ simp ints (omega arith)), refl))).1; end = ((w, ((low s, w.next ∴ h ∴ simp ints (omega arith)), refl))).2 }
+    record {
+      walks = w;
+      has = (low s, w.next ∴ h ∴ simp ints (omega arith));
+      end = refl;
+    }
 
 -- ---- it is the first of the next one
 abbrev start : Else-j-from → Start
@@ -73,7 +77,14 @@ following-begin-requires c =
     let r = (altering s).1.ready in
     let near =
     walking.place s.args.by s.args.a_period s.args.a_distance s.args.b_period s.args.b_distance s.args.a_cells.now s.args.b_cells.now s.requires.sound s.requires.sound_2 (altering s) s.args.from (walks s) in
-    record { sound = (simp plain (s.requires.sound, (s.requires.sound_2, (r.full, (r.aligned, ((walks s).begin, near)))))).0; sound_2 = (simp plain (s.requires.sound, (s.requires.sound_2, (r.full, (r.aligned, ((walks s).begin, near)))))).1; full = (simp plain (s.requires.sound, (s.requires.sound_2, (r.full, (r.aligned, ((walks s).begin, near)))))).2; partition = (simp plain (s.requires.sound, (s.requires.sound_2, (r.full, (r.aligned, ((walks s).begin, near)))))).3; coarse_begins = (simp plain (s.requires.sound, (s.requires.sound_2, (r.full, (r.aligned, ((walks s).begin, near)))))).4; within = (simp plain (s.requires.sound, (s.requires.sound_2, (r.full, (r.aligned, ((walks s).begin, near)))))).5 }
+    record {
+      sound = simp plain s.requires.sound;
+      sound_2 = simp plain s.requires.sound_2;
+      full = simp plain r.full;
+      partition = simp plain r.aligned;
+      coarse_begins = simp plain ((walks s).begin);
+      within = simp plain near;
+    }
 
 steps : (c : After-following-begin) → let s = start (goal.at.After-following-begin c).After-following-arg-1 in Steps s.args.by (a-row s) (b-row s) s.args.from c.following-begin.result
 steps c =
@@ -98,4 +109,8 @@ returns c =
     let e = ap (begins s.args.by (a-row s) (b-row s)) t.label in
     let d = ap (λ (l : ℤ). begins s.args.by (a-row s) (b-row s) (l +ℤ pos 1)) t.label in
     let r = begins-rise s.args.by (a-row s) (b-row s) (altering s) (s.args.from.label +ℤ pos 1) in
-    record { walks = ((t.walk, ((e ∴ w.next ∴ next_low (goal.at.After-following-begin f).After-following-arg-1 ∴ simp ints (omega arith), d ∴ w.next ∴ at-most s ∴ r ∴ simp ints (omega arith)), t.end))).0; has = ((t.walk, ((e ∴ w.next ∴ next_low (goal.at.After-following-begin f).After-following-arg-1 ∴ simp ints (omega arith), d ∴ w.next ∴ at-most s ∴ r ∴ simp ints (omega arith)), t.end))).1; end = ((t.walk, ((e ∴ w.next ∴ next_low (goal.at.After-following-begin f).After-following-arg-1 ∴ simp ints (omega arith), d ∴ w.next ∴ at-most s ∴ r ∴ simp ints (omega arith)), t.end))).2 }
+    record {
+      walks = t.walk;
+      has = (e ∴ w.next ∴ next_low (goal.at.After-following-begin f).After-following-arg-1 ∴ simp ints (omega arith), d ∴ w.next ∴ at-most s ∴ r ∴ simp ints (omega arith));
+      end = t.end;
+    }

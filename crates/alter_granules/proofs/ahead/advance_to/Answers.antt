@@ -94,7 +94,14 @@ following-begin-requires c =
     let w = c.loop-s.invariant.0 in
     let near =
     walking.place s.args.by (a-period s) (a_distance s) (b-period s) (b-distance s) s.args.a_cells.now s.args.b_cells.now r.0 r.1.0 g (walk c) w in
-    record { sound = ((r.0, (r.1.0, (d.full, (d.aligned, (w.begin, near)))))).0; sound_2 = ((r.0, (r.1.0, (d.full, (d.aligned, (w.begin, near)))))).1; full = ((r.0, (r.1.0, (d.full, (d.aligned, (w.begin, near)))))).2; partition = ((r.0, (r.1.0, (d.full, (d.aligned, (w.begin, near)))))).3; coarse_begins = ((r.0, (r.1.0, (d.full, (d.aligned, (w.begin, near)))))).4; within = ((r.0, (r.1.0, (d.full, (d.aligned, (w.begin, near)))))).5 }
+    record {
+      sound = r.0;
+      sound_2 = r.1.0;
+      full = d.full;
+      partition = d.aligned;
+      coarse_begins = w.begin;
+      within = near;
+    }
 
 steps : (c : After-following-begin) → let s = begun (goal.at.After-following-begin c).After-following-arg-1 in Steps s.args.by (a-row s) (b-row s) (walk (goal.at.After-following-begin c).After-following-arg-1) c.following-begin.result
 steps c =

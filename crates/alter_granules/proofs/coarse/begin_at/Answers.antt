@@ -57,7 +57,10 @@ first_instant-v-requires s =
     let n = s.ranges.b_distance in
     let t = s.ranges.t in
     let w = s.requires.within in
-    record { sound = (simp plain (s.requires.sound_2, ((own s, own-label s), (w ∴ simp ints (omega arith), w ∴ simp ints (omega arith))))).0; labelled = (simp plain (s.requires.sound_2, ((own s, own-label s), (w ∴ simp ints (omega arith), w ∴ simp ints (omega arith))))).1 }
+    record {
+      sound = simp plain s.requires.sound_2;
+      labelled = simp plain ((own s, own-label s), (w ∴ simp ints (omega arith), w ∴ simp ints (omega arith)));
+    }
 
 -- the first instant of its granule
 abbrev beginning : After-first_instant-v → ℤ
@@ -106,7 +109,10 @@ cursor_at-a-requires c =
     let p = s.ranges.a_period in
     let n = s.ranges.a_distance in
     let v = fits c in
-    record { sound = (simp plain (s.requires.sound, near c)).0; near = (simp plain (s.requires.sound, near c)).1 }
+    record {
+      sound = simp plain s.requires.sound;
+      near = simp plain (near c);
+    }
 
 pub cursor_at-b-requires : goal.cursor_at-b-requires
 cursor_at-b-requires c =
@@ -115,7 +121,10 @@ cursor_at-b-requires c =
     let p = s.ranges.b_period in
     let n = s.ranges.b_distance in
     let v = fits d in
-    record { sound = (simp plain (s.requires.sound_2, near d)).0; near = (simp plain (s.requires.sound_2, near d)).1 }
+    record {
+      sound = simp plain s.requires.sound_2;
+      near = simp plain (near d);
+    }
 
 -- its cursors
 abbrev begun : After-cursor_at-b → After-first_instant-v
@@ -143,7 +152,10 @@ label_of-p-requires c =
     let s = (goal.at.After-first_instant-v d).Start in
     let p = s.ranges.a_period in
     let n = s.ranges.a_distance in
-    record { sound = (simp plain (s.requires.sound, (beginning d, near d, a-cursor c, (fine d, a-shows d)))).0; shown = (simp plain (s.requires.sound, (beginning d, near d, a-cursor c, (fine d, a-shows d)))).1 }
+    record {
+      sound = simp plain s.requires.sound;
+      shown = simp plain (beginning d, near d, a-cursor c, (fine d, a-shows d));
+    }
 
 pub label_of-i-requires : goal.label_of-i-requires
 label_of-i-requires c =
@@ -151,7 +163,10 @@ label_of-i-requires c =
     let s = (goal.at.After-first_instant-v d).Start in
     let p = s.ranges.b_period in
     let n = s.ranges.b_distance in
-    record { sound = (simp plain (s.requires.sound_2, (beginning d, near d, b-cursor (goal.at.label_of-i-requires c).After-cursor_at-b, (own s, b-shows d)))).0; shown = (simp plain (s.requires.sound_2, (beginning d, near d, b-cursor (goal.at.label_of-i-requires c).After-cursor_at-b, (own s, b-shows d)))).1 }
+    record {
+      sound = simp plain s.requires.sound_2;
+      shown = simp plain (beginning d, near d, b-cursor (goal.at.label_of-i-requires c).After-cursor_at-b, (own s, b-shows d));
+    }
 
 -- what is returned
 abbrev made : After-label_of-i → Begin
@@ -195,4 +210,8 @@ returns c =
     let p : SFits w64 (made c).p = sfits_of c.label_of-p.type_inv in
     let b = bounds d in
     let e = placed c in
-    record { begins = (simp plain (begins c, (own-label (goal.at.After-first_instant-v d).Start ∙ ap some (same-granule c), (b.0 ∴ e ∴ simp ints (omega arith), b.1 ∴ e ∴ simp ints (omega arith))))).0; of = (simp plain (begins c, (own-label (goal.at.After-first_instant-v d).Start ∙ ap some (same-granule c), (b.0 ∴ e ∴ simp ints (omega arith), b.1 ∴ e ∴ simp ints (omega arith))))).1; near = (simp plain (begins c, (own-label (goal.at.After-first_instant-v d).Start ∙ ap some (same-granule c), (b.0 ∴ e ∴ simp ints (omega arith), b.1 ∴ e ∴ simp ints (omega arith))))).2 }
+    record {
+      begins = simp plain (begins c);
+      of = simp plain (own-label (goal.at.After-first_instant-v d).Start ∙ ap some (same-granule c));
+      near = simp plain (b.0 ∴ e ∴ simp ints (omega arith), b.1 ∴ e ∴ simp ints (omega arith));
+    }

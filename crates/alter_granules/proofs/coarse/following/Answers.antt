@@ -97,7 +97,11 @@ pub cursor_on-a-requires : goal.cursor_on-a-requires
 cursor_on-a-requires c =
     let n = (goal.at.cursor_on-a-requires c).After-cursor_on-arg-1 in
     let s = start n in
-    record { sound = ((a-sound s, ((from s, near s, (asked s).begun.a-cursor), steps-are n ∴ few n ∴ simp ints (omega arith)))).0; standing = ((a-sound s, ((from s, near s, (asked s).begun.a-cursor), steps-are n ∴ few n ∴ simp ints (omega arith)))).1; pos_bound = ((a-sound s, ((from s, near s, (asked s).begun.a-cursor), steps-are n ∴ few n ∴ simp ints (omega arith)))).2 }
+    record {
+      sound = a-sound s;
+      standing = (from s, near s, (asked s).begun.a-cursor);
+      pos_bound = steps-are n ∴ few n ∴ simp ints (omega arith);
+    }
 
 a-cursor : (c : After-cursor_on-a) → let n = (goal.at.After-cursor_on-a c).After-cursor_on-arg-1 in c.cursor_on-a.result ≡ cursor_at (a-row (start n)) (there n)
 a-cursor c =
@@ -144,4 +148,8 @@ returns c =
     let db = s.ranges.b_distance in
     let n = numbers s.args.b_period s.args.b_distance s.args.b_cells.now s.requires.sound_2 in
     let e = simp plain at (next c) in
-    record { begins = (simp plain (e.begins, (e.of, (e.behind, e.near ∴ n.period-is ∴ simp ints (omega arith))))).0; of = (simp plain (e.begins, (e.of, (e.behind, e.near ∴ n.period-is ∴ simp ints (omega arith))))).1; near = (simp plain (e.begins, (e.of, (e.behind, e.near ∴ n.period-is ∴ simp ints (omega arith))))).2 }
+    record {
+      begins = simp plain e.begins;
+      of = simp plain e.of;
+      near = simp plain (e.behind, e.near ∴ n.period-is ∴ simp ints (omega arith));
+    }

@@ -66,4 +66,7 @@ returns c =
     let v = valid s.args.period s.args.distance s.args.cells.now s.requires.sound in
     let f : SFits w64 c.found-1.given.0.0 = sfits_of c.known_told-1.given.0.1 in
     let e = instant_of-labelled (row s) v (pos 0) c.found-1.given.0.0 (sym (found-is d) ∙ ap found c.found-1.given.1) in
-    record { label = (simp plain (e, zero-near s.args.period s.args.distance s.args.cells.now s.requires.sound c.found-1.given.0.0 e)).0; near = (simp plain (e, zero-near s.args.period s.args.distance s.args.cells.now s.requires.sound c.found-1.given.0.0 e)).1 }
+    record {
+      label = simp plain e;
+      near = simp plain (zero-near s.args.period s.args.distance s.args.cells.now s.requires.sound c.found-1.given.0.0 e);
+    }

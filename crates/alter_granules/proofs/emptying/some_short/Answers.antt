@@ -91,7 +91,14 @@ pub following-next-requires : goal.following-next-requires
 following-next-requires c =
     let l = (goal.at.following-next-requires c).At-loop-n in
     let s = (goal.at.At-loop-n l).Start in
-    record { sound = ((a-sound s, (b-sound s, ((passable s).full, ((passable s).partition, (l.loop-n.invariant.begins, wider (place l))))))).0; sound_2 = ((a-sound s, (b-sound s, ((passable s).full, ((passable s).partition, (l.loop-n.invariant.begins, wider (place l))))))).1; full = ((a-sound s, (b-sound s, ((passable s).full, ((passable s).partition, (l.loop-n.invariant.begins, wider (place l))))))).2; partition = ((a-sound s, (b-sound s, ((passable s).full, ((passable s).partition, (l.loop-n.invariant.begins, wider (place l))))))).3; coarse_begins = ((a-sound s, (b-sound s, ((passable s).full, ((passable s).partition, (l.loop-n.invariant.begins, wider (place l))))))).4; within = ((a-sound s, (b-sound s, ((passable s).full, ((passable s).partition, (l.loop-n.invariant.begins, wider (place l))))))).5 }
+    record {
+      sound = a-sound s;
+      sound_2 = b-sound s;
+      full = (passable s).full;
+      partition = (passable s).partition;
+      coarse_begins = l.loop-n.invariant.begins;
+      within = wider (place l);
+    }
 
 -- where it goes
 abbrev there : After-following-next → Begin
@@ -150,7 +157,12 @@ is_short-requires c =
     let q = here-fits (goal.at.is_short-requires c).After-struct_told-in-loop-n-1 in
     let i : SFits w64 l.loop-n.c.i = sfits_of c.struct_told-in-loop-n-2-1.given.0.1 in
     let f = size_fits d in
-    record { limits = (simp plain ((passable (goal.at.At-loop-n l).Start).limits, ((passable (goal.at.At-loop-n l).Start).divides, ((small d).label, (small d).size)))).0; pos_bound = (simp plain ((passable (goal.at.At-loop-n l).Start).limits, ((passable (goal.at.At-loop-n l).Start).divides, ((small d).label, (small d).size)))).1; within = (simp plain ((passable (goal.at.At-loop-n l).Start).limits, ((passable (goal.at.At-loop-n l).Start).divides, ((small d).label, (small d).size)))).2; within_2 = (simp plain ((passable (goal.at.At-loop-n l).Start).limits, ((passable (goal.at.At-loop-n l).Start).divides, ((small d).label, (small d).size)))).3 }
+    record {
+      limits = simp plain ((passable (goal.at.At-loop-n l).Start).limits);
+      pos_bound = simp plain ((passable (goal.at.At-loop-n l).Start).divides);
+      within = simp plain ((small d).label);
+      within_2 = simp plain ((small d).size);
+    }
 
 tested : (c : After-is_short) → let d = behind (goal.at.After-is_short c).After-struct_told-in-loop-n-2-1 in let l = (goal.at.After-following-next d).At-loop-n in
     c.is_short.result ≡ short_by l.args.by (up (common (goal.at.At-loop-n l).Start)) l.loop-n.c.i (size d)

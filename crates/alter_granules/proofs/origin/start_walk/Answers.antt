@@ -63,43 +63,14 @@ begin_at-from-requires c =
     let r = (alterable s).ready in
     let o = opens f in
     let h = (a-numbers s).high in
-    record { sound = (simp plain (
-      s.requires.sound,
-      (
-        s.requires.sound_2,
-        (r.full, (r.aligned, ((o.low ∴ simp ints (omega arith), o.high ∴ h ∴ simp ints (omega arith)), (r.aligned.labelled (first f).t).0 ((first f).j, o.label)))),
-      ),
-    )).0; sound_2 = (simp plain (
-      s.requires.sound,
-      (
-        s.requires.sound_2,
-        (r.full, (r.aligned, ((o.low ∴ simp ints (omega arith), o.high ∴ h ∴ simp ints (omega arith)), (r.aligned.labelled (first f).t).0 ((first f).j, o.label)))),
-      ),
-    )).1; full = (simp plain (
-      s.requires.sound,
-      (
-        s.requires.sound_2,
-        (r.full, (r.aligned, ((o.low ∴ simp ints (omega arith), o.high ∴ h ∴ simp ints (omega arith)), (r.aligned.labelled (first f).t).0 ((first f).j, o.label)))),
-      ),
-    )).2; partition = (simp plain (
-      s.requires.sound,
-      (
-        s.requires.sound_2,
-        (r.full, (r.aligned, ((o.low ∴ simp ints (omega arith), o.high ∴ h ∴ simp ints (omega arith)), (r.aligned.labelled (first f).t).0 ((first f).j, o.label)))),
-      ),
-    )).3; within = (simp plain (
-      s.requires.sound,
-      (
-        s.requires.sound_2,
-        (r.full, (r.aligned, ((o.low ∴ simp ints (omega arith), o.high ∴ h ∴ simp ints (omega arith)), (r.aligned.labelled (first f).t).0 ((first f).j, o.label)))),
-      ),
-    )).4; t_value = (simp plain (
-      s.requires.sound,
-      (
-        s.requires.sound_2,
-        (r.full, (r.aligned, ((o.low ∴ simp ints (omega arith), o.high ∴ h ∴ simp ints (omega arith)), (r.aligned.labelled (first f).t).0 ((first f).j, o.label)))),
-      ),
-    )).5 }
+    record {
+      sound = simp plain s.requires.sound;
+      sound_2 = simp plain s.requires.sound_2;
+      full = simp plain r.full;
+      partition = simp plain r.aligned;
+      within = simp plain (o.low ∴ simp ints (omega arith), o.high ∴ h ∴ simp ints (omega arith));
+      t_value = simp plain ((r.aligned.labelled (first f).t).0 ((first f).j, o.label));
+    }
 
 -- where b's granule of that instant begins
 abbrev told : After-begin_at-from → After-first_labelled-first
@@ -136,79 +107,14 @@ following-begin-requires c =
     let k = from_is c in
     let h = (a-numbers s).high in
     let l = b-numbers s in
-    record { sound = (simp plain (
-      s.requires.sound,
-      (
-        s.requires.sound_2,
-        (
-          r.full,
-          (
-            r.aligned,
-            (k.0, (k.1.1.0 ∴ o.low ∴ l.period-is ∴ l.high ∴ simp ints (omega arith), k.1.1.1 ∴ o.high ∴ h ∴ simp ints (omega arith))),
-          ),
-        ),
-      ),
-    )).0; sound_2 = (simp plain (
-      s.requires.sound,
-      (
-        s.requires.sound_2,
-        (
-          r.full,
-          (
-            r.aligned,
-            (k.0, (k.1.1.0 ∴ o.low ∴ l.period-is ∴ l.high ∴ simp ints (omega arith), k.1.1.1 ∴ o.high ∴ h ∴ simp ints (omega arith))),
-          ),
-        ),
-      ),
-    )).1; full = (simp plain (
-      s.requires.sound,
-      (
-        s.requires.sound_2,
-        (
-          r.full,
-          (
-            r.aligned,
-            (k.0, (k.1.1.0 ∴ o.low ∴ l.period-is ∴ l.high ∴ simp ints (omega arith), k.1.1.1 ∴ o.high ∴ h ∴ simp ints (omega arith))),
-          ),
-        ),
-      ),
-    )).2; partition = (simp plain (
-      s.requires.sound,
-      (
-        s.requires.sound_2,
-        (
-          r.full,
-          (
-            r.aligned,
-            (k.0, (k.1.1.0 ∴ o.low ∴ l.period-is ∴ l.high ∴ simp ints (omega arith), k.1.1.1 ∴ o.high ∴ h ∴ simp ints (omega arith))),
-          ),
-        ),
-      ),
-    )).3; coarse_begins = (simp plain (
-      s.requires.sound,
-      (
-        s.requires.sound_2,
-        (
-          r.full,
-          (
-            r.aligned,
-            (k.0, (k.1.1.0 ∴ o.low ∴ l.period-is ∴ l.high ∴ simp ints (omega arith), k.1.1.1 ∴ o.high ∴ h ∴ simp ints (omega arith))),
-          ),
-        ),
-      ),
-    )).4; within = (simp plain (
-      s.requires.sound,
-      (
-        s.requires.sound_2,
-        (
-          r.full,
-          (
-            r.aligned,
-            (k.0, (k.1.1.0 ∴ o.low ∴ l.period-is ∴ l.high ∴ simp ints (omega arith), k.1.1.1 ∴ o.high ∴ h ∴ simp ints (omega arith))),
-          ),
-        ),
-      ),
-    )).5 }
+    record {
+      sound = simp plain s.requires.sound;
+      sound_2 = simp plain s.requires.sound_2;
+      full = simp plain r.full;
+      partition = simp plain r.aligned;
+      coarse_begins = simp plain k.0;
+      within = simp plain (k.1.1.0 ∴ o.low ∴ l.period-is ∴ l.high ∴ simp ints (omega arith), k.1.1.1 ∴ o.high ∴ h ∴ simp ints (omega arith));
+    }
 
 -- where the next one does
 abbrev begin : After-following-begin → Begin

@@ -39,7 +39,10 @@ first_fine-f-requires c =
     let o = s.requires.2 in
     let i = n.i-fits in
     let p = n.p-fits in
-    record { limits = (simp plain (o.given.limits, ((o.i-near.0 ∴ simp ints (omega arith), o.i-near.1 ∴ simp ints (omega arith)), (o.p-near.0 ∴ simp ints (omega arith), o.p-near.1 ∴ simp ints (omega arith))))).0; within = (simp plain (o.given.limits, ((o.i-near.0 ∴ simp ints (omega arith), o.i-near.1 ∴ simp ints (omega arith)), (o.p-near.0 ∴ simp ints (omega arith), o.p-near.1 ∴ simp ints (omega arith))))).1 }
+    record {
+      limits = simp plain o.given.limits;
+      within = simp plain ((o.i-near.0 ∴ simp ints (omega arith), o.i-near.1 ∴ simp ints (omega arith)), (o.p-near.0 ∴ simp ints (omega arith), o.p-near.1 ∴ simp ints (omega arith)));
+    }
 
 -- the turns
 abbrev start : After-first_fine-f → Start
@@ -96,7 +99,10 @@ first_fine-requires c =
     let o = s.pre.2 in
     let i = n.next-i-fits in
     let p = n.next-p-fits in
-    record { limits = (simp plain (o.given.limits, (n.next-i-near, (o.next-near.0 ∴ simp ints (omega arith), o.next-near.1 ∴ simp ints (omega arith))))).0; within = (simp plain (o.given.limits, (n.next-i-near, (o.next-near.0 ∴ simp ints (omega arith), o.next-near.1 ∴ simp ints (omega arith))))).1 }
+    record {
+      limits = simp plain o.given.limits;
+      within = simp plain (n.next-i-near, (o.next-near.0 ∴ simp ints (omega arith), o.next-near.1 ∴ simp ints (omega arith)));
+    }
 
 abbrev before : After-first_fine → After-floor_div-turns
 before c = divided (goal.at.After-first_fine c).After-struct_told-8-1
