@@ -153,7 +153,8 @@ zero-label c =
     let s = first c in
     let p = s.ranges.b_period in
     let d = s.ranges.b_distance in
-    simp plain at c.instant_zero-t.ensures
+    let e = c.instant_zero-t.ensures in
+    (simp plain at e.label, e.near)
 
 pub begin_at-start-requires : goal.begin_at-start-requires
 begin_at-start-requires c =
@@ -177,30 +178,38 @@ begin_at-start-requires c =
 abbrev zero : After-begin_at-start → After-instant_zero-t
 zero c = (goal.at.After-begin_at-start c).After-instant_zero-t
 
+abbrev divided : After-begin_at-start → After-common-common
+divided c = (goal.at.After-instant_zero-t (zero c)).After-common-common
+
+abbrev risen : After-begin_at-start → After-rise_over-rise
+risen c = (goal.at.After-instant_zero-t (zero c)).After-rise_over-rise
+
 -- it starts less than a period before the instant
 start-near : {t u p : ℤ} {n : ℕ} → Within (2 ^ 52) t → ((t -ℤ p) ≤ℤ u) × (u ≤ℤ t) → p ≡ pos n → n ≤ pool_limit → Within (2 ^ 53) u
 start-near {t} {u} {p} {n} = simp ints (omega arith)
 
 passable : (c : After-begin_at-start) → let s = first (zero c) in
-    Passable s.args.by (a-row s) (b-row s) c.begin_at-start.result (zero c).before.common.result (zero c).before.before.before.rise-over.result
+    Passable s.args.by (a-row s) (b-row s) c.begin_at-start.result (divided c).common-common.result (risen c).rise_over-rise.result
 passable c =
-    let d = (zero c).before in
-    let r = d.before.before in
+    let d = divided c in
+    let r = risen c in
     let s = begun r in
     let p = s.ranges.a_period in
     let n = s.ranges.a_distance in
     let q = s.ranges.b_period in
     let m = s.ranges.b_distance in
-    let t : SFits w64 (zero c).instant-zero.result = sfits_of (zero c).instant-zero.type-inv in
-    let e = simp plain at c.begin_at-start.ensures in
+    let t : SFits w64 (zero c).instant_zero-t.result = sfits_of (zero c).instant_zero-t.type_inv in
+    let e = c.begin_at-start.ensures in
+    let begins = simp plain at e.begins in
+    let near = simp plain at e.near in
     let v = (known s).valid in
     let above = gcd-pos (rise_coarse (a-row s) (b-row s)) (up s.args.by.x) (rise-positive-right (a-row s) (b-row s) v.0 v.1) in
     record {
       limits = (emptiable s).limits;
       full = (emptiable s).full;
       partition = (emptiable s).partition;
-      begins = e.0;
-      near = start-near (zero-label (zero c)).1 e.1.1 (b-numbers s).period-is (b-numbers s).high;
+      begins = begins;
+      near = start-near (zero-label (zero c)).1 near (b-numbers s).period-is (b-numbers s).high;
       divides = common-is d ∴ above ∴ simp ints (omega arith);
       low = rise-is r ∴ simp ints (omega arith);
       high = rise-is r ∴ rise-small s ∴ simp ints (omega arith);
@@ -208,39 +217,39 @@ passable c =
 
 pub some_short-requires : goal.some_short-requires
 some_short-requires c =
-    let d = (zero c).before in
+    let d = divided c in
     let s = first (zero c) in
     let p = s.ranges.a_period in
     let n = s.ranges.a_distance in
     let q = s.ranges.b_period in
     let m = s.ranges.b_distance in
     let g = common-fits d in
-    let f = rise-fits d.before.before in
+    let f = rise-fits (risen c) in
     record {
       sound = simp plain s.requires.sound;
       sound_2 = simp plain s.requires.sound_2;
       passable = simp plain (passable c);
     }
 
-passed : (c : After-some_short) → let b = (goal.at.After-some_short c).After-begin_at-start in let d = (zero b).before in let s = first (zero b) in
+passed : (c : After-some_short) → let b = (goal.at.After-some_short c).After-begin_at-start in let d = divided b in let s = first (zero b) in
     c.some_short.result
-    ≡ any (short s.args.by (a-row s) (b-row s) (up d.common-common.result)) (from b.begin_at-start.result.i (up d.before.before.rise_over-rise.result))
+    ≡ any (short s.args.by (a-row s) (b-row s) (up d.common-common.result)) (from b.begin_at-start.result.i (up (risen b).rise_over-rise.result))
 passed c =
-    let d = (zero (goal.at.After-some_short c).After-begin_at-start).before in
+    let d = divided (goal.at.After-some_short c).After-begin_at-start in
     let s = first (zero (goal.at.After-some_short c).After-begin_at-start) in
     let p = s.ranges.a_period in
     let n = s.ranges.a_distance in
     let q = s.ranges.b_period in
     let m = s.ranges.b_distance in
     let g = common-fits d in
-    let f = rise-fits d.before.before in
+    let f = rise-fits (risen (goal.at.After-some_short c).After-begin_at-start) in
     simp plain at c.some_short.ensures
 
 pub returns : goal.returns
 returns c =
     let b = (goal.at.returns c).After-begin_at-start in
-    let d = (zero b).before in
+    let d = divided b in
     let s = first (zero b) in
     passed c
-    ∙ ap₂ (λ (g n : ℤ). any (short s.args.by (a-row s) (b-row s) (up g)) (from b.begin_at-start.result.i (up n))) (common-is d) (rise-is d.before.before)
+    ∙ ap₂ (λ (g n : ℤ). any (short s.args.by (a-row s) (b-row s) (up g)) (from b.begin_at-start.result.i (up n))) (common-is d) (rise-is (risen b))
     ∙ emptied-pass s.args.by (a-row s) (b-row s) (known s) (emptiable s).limits b.begin_at-start.result.i

@@ -90,9 +90,12 @@ returns c =
     let m = s.ranges.b_distance in
     let j = j-fits d in
     let v = w.advance_to-walk.result in
-    let e : CoarseWalk s.args.by (a-row s) (b-row s) v × (Holds s.args.by (a-row s) (b-row s) (first d).j v.label × (v.end ≡ (walk d).end)) = simp plain at w.advance_to-walk.ensures in
-    let has = subst (λ (i : ℤ). Holds s.args.by (a-row s) (b-row s) i v.label) (sym (same d)) e.1.0 in
-    let on = start-on s.args.by s.args.repeat (a-row s) (b-row s) s.requires.alterable (walk d) v (starts d) e.0 has e.1.1 in record {
+    let r = w.advance_to-walk.ensures in
+    let walks : CoarseWalk s.args.by (a-row s) (b-row s) v = simp plain at r.walks in
+    let holds : Holds s.args.by (a-row s) (b-row s) (first d).j v.label = simp plain at r.has in
+    let has = subst (λ (i : ℤ). Holds s.args.by (a-row s) (b-row s) i v.label) (sym (same d)) holds in
+    let on = start-on s.args.by s.args.repeat (a-row s) (b-row s) s.requires.alterable (walk d) v (starts d) walks has r.end in
+    record {
       follows = follows-start s.args.by s.args.repeat (a-row s) (b-row s) s.requires.alterable v c.cursor_at.result on (simp plain at c.cursor_at.ensures);
-      passed = passed_start s.args.by s.args.repeat (a-row s) (b-row s) s.requires.alterable (walk d) v (starts d) e.0 has;
+      passed = passed_start s.args.by s.args.repeat (a-row s) (b-row s) s.requires.alterable (walk d) v (starts d) walks has;
     }

@@ -17,7 +17,7 @@ use Rattle.alter_granules.specs.Follows.{Altering, begins, CoarseWalk, Steps, St
 use Rattle.alter_granules.proofs.Tiled.{begins-rise}
 use Rattle.alter_granules.proofs.Walking as walking
 use Rattle.alter_granules.proofs.ahead.advance.Goals as goal
-use Rattle.alter_granules.proofs.ahead.advance.Goals.{After-following-arg-1, After-following-begin, After-struct_told-1, Else-j-from, Start}
+use Rattle.alter_granules.proofs.ahead.advance.Goals.{After-following-begin, After-struct_told-1, Else-j-from, Start}
 
 abbrev a-row : Start → Row
 a-row s = given s.args.a_period s.args.a_distance s.args.a_cells.now
@@ -69,7 +69,7 @@ next_low c =
 
 pub following-begin-requires : goal.following-begin-requires
 following-begin-requires c =
-    let s = start c in
+    let s = (goal.at.following-begin-requires c).Start in
     let p = s.ranges.a_period in
     let n = s.ranges.a_distance in
     let q = s.ranges.b_period in
@@ -86,24 +86,24 @@ following-begin-requires c =
       within = simp plain near;
     }
 
-steps : (c : After-following-begin) → let s = start (goal.at.After-following-begin c).After-following-arg-1 in Steps s.args.by (a-row s) (b-row s) s.args.from c.following-begin.result
+steps : (c : After-following-begin) → let s = start (goal.at.After-following-begin c).Else-j-from in Steps s.args.by (a-row s) (b-row s) s.args.from c.following-begin.result
 steps c =
-    let s = start (goal.at.After-following-begin c).After-following-arg-1 in
+    let s = start (goal.at.After-following-begin c).Else-j-from in
     let p = s.ranges.a_period in
     let n = s.ranges.a_distance in
     let q = s.ranges.b_period in
     let m = s.ranges.b_distance in
     let k : CoarseBegins (a-row s) (b-row s) c.following-begin.result = simp plain at c.following-begin.ensures.begins in
     walking.steps s.args.by s.args.a_period s.args.a_distance s.args.b_period s.args.b_distance s.args.a_cells.now s.args.b_cells.now s.requires.sound s.requires.sound_2 (altering s)
-    s.args.from c.following-begin.result (walks s) (next_low (goal.at.After-following-begin c).After-following-arg-1 ∴ before-end s ∴ simp ints (omega arith)) k c.following-begin.ensures.of
+    s.args.from c.following-begin.result (walks s) (next_low (goal.at.After-following-begin c).Else-j-from ∴ before-end s ∴ simp ints (omega arith)) k c.following-begin.ensures.of
 
 pub stepped-requires : goal.stepped-requires
-stepped-requires c = let s = start (goal.at.stepped-requires c).After-following-arg-1 in (a-row s, b-row s, steps c)
+stepped-requires c = let s = start (goal.at.stepped-requires c).Else-j-from in (a-row s, b-row s, steps c)
 
 pub returns : goal.returns
 returns c =
     let f = (goal.at.returns c).After-following-begin in
-    let s = start (goal.at.After-following-begin f).After-following-arg-1 in
+    let s = start (goal.at.After-following-begin f).Else-j-from in
     let w = walks s in
     let t = c.stepped.ensures (a-row s) (b-row s) (steps f) in
     let e = ap (begins s.args.by (a-row s) (b-row s)) t.label in
@@ -111,6 +111,6 @@ returns c =
     let r = begins-rise s.args.by (a-row s) (b-row s) (altering s) (s.args.from.label +ℤ pos 1) in
     record {
       walks = t.walk;
-      has = (e ∴ w.next ∴ next_low (goal.at.After-following-begin f).After-following-arg-1 ∴ simp ints (omega arith), d ∴ w.next ∴ at-most s ∴ r ∴ simp ints (omega arith));
+      has = (e ∴ w.next ∴ next_low (goal.at.After-following-begin f).Else-j-from ∴ simp ints (omega arith), d ∴ w.next ∴ at-most s ∴ r ∴ simp ints (omega arith));
       end = t.end;
     }

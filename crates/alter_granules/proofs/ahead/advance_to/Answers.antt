@@ -20,7 +20,7 @@ use Rattle.alter_granules.proofs.Tiled.{begins-rise}
 use Rattle.alter_granules.proofs.Walking as walking
 use Rattle.integers.proofs.Order.{up-less}
 use Rattle.alter_granules.proofs.ahead.advance_to.Goals as goal
-use Rattle.alter_granules.proofs.ahead.advance_to.Goals.{After-following-arg-1, After-following-begin, After-stepped-s, At-loop-s, In-loop-s, Start as Start-place}
+use Rattle.alter_granules.proofs.ahead.advance_to.Goals.{After-following-begin, After-stepped-s, At-loop-s, In-loop-s, Start as Start-place}
 
 -- the rows and j as the machine has them
 abbrev Start : Type 0
@@ -65,7 +65,8 @@ required s =
     let q = s.ranges.b_period in
     let m = s.ranges.b_distance in
     let j = s.ranges.j in
-    simp plain s.requires
+    let r = s.requires in
+    simp plain (r.sound, (r.sound_2, (r.altering, (r.coarse_walk, r.label_bound))))
 
 pub loop-s-init : goal.loop-s-init
 loop-s-init s = let r = (required s).1.1.1 in (r.0, r.1.0, refl)
@@ -87,13 +88,14 @@ next-before c = next_low c ∴ (required (begun c)).1.1.1.1.1 ∴ c.loop-s.invar
 
 pub following-begin-requires : goal.following-begin-requires
 following-begin-requires c =
-    let s = begun c in
+    let l = (goal.at.following-begin-requires c).In-loop-s in
+    let s = begun l in
     let r = required s in
     let g = r.1.1.0 in
     let d = g.1.ready in
-    let w = c.loop-s.invariant.0 in
+    let w = l.loop-s.invariant.0 in
     let near =
-    walking.place s.args.by (a-period s) (a_distance s) (b-period s) (b-distance s) s.args.a_cells.now s.args.b_cells.now r.0 r.1.0 g (walk c) w in
+    walking.place s.args.by (a-period s) (a_distance s) (b-period s) (b-distance s) s.args.a_cells.now s.args.b_cells.now r.0 r.1.0 g (walk l) w in
     record {
       sound = r.0;
       sound_2 = r.1.0;
@@ -103,27 +105,27 @@ following-begin-requires c =
       within = near;
     }
 
-steps : (c : After-following-begin) → let s = begun (goal.at.After-following-begin c).After-following-arg-1 in Steps s.args.by (a-row s) (b-row s) (walk (goal.at.After-following-begin c).After-following-arg-1) c.following-begin.result
+steps : (c : After-following-begin) → let s = begun (goal.at.After-following-begin c).In-loop-s in Steps s.args.by (a-row s) (b-row s) (walk (goal.at.After-following-begin c).In-loop-s) c.following-begin.result
 steps c =
-    let d = (goal.at.After-following-begin c).After-following-arg-1 in
+    let d = (goal.at.After-following-begin c).In-loop-s in
     let s = begun d in
     let r = required s in
     let e = c.following-begin.ensures in
     walking.steps s.args.by (a-period s) (a_distance s) (b-period s) (b-distance s) s.args.a_cells.now s.args.b_cells.now r.0 r.1.0 r.1.1.0
-    (walk d) c.following-begin.result d.loop-s.invariant.0 (next-before d) e.0 e.1.0
+    (walk d) c.following-begin.result d.loop-s.invariant.0 (next-before d) e.begins e.of
 
 pub stepped-s-requires : goal.stepped-s-requires
-stepped-s-requires c = let s = begun (goal.at.stepped-s-requires c).After-following-arg-1 in (a-row s, b-row s, steps c)
+stepped-s-requires c = let s = begun (goal.at.stepped-s-requires c).In-loop-s in (a-row s, b-row s, steps c)
 
-on : (c : After-stepped-s) → let s = begun (goal.at.After-stepped-s c).After-following-arg-1 in Stepped s.args.by (a-row s) (b-row s) (walk (goal.at.After-stepped-s c).After-following-arg-1) c.stepped-s.result
-on c = let s = begun (goal.at.After-stepped-s c).After-following-arg-1 in c.stepped-s.ensures (a-row s) (b-row s) (steps (goal.at.After-stepped-s c).After-following-begin)
+on : (c : After-stepped-s) → let s = begun (goal.at.After-stepped-s c).In-loop-s in Stepped s.args.by (a-row s) (b-row s) (walk (goal.at.After-stepped-s c).In-loop-s) c.stepped-s.result
+on c = let s = begun (goal.at.After-stepped-s c).In-loop-s in c.stepped-s.ensures (a-row s) (b-row s) (steps (goal.at.After-stepped-s c).After-following-begin)
 
 less : (by : Alteration) (a b : Row) → Altering by a b → (s r : Walk) → CoarseWalk by a b s → CoarseWalk by a b r → r.label ≡ s.label +ℤ pos 1 → s.next <ℤ r.next
 less by a b g s r w v e = w.next ∴ v.next ∴ ap (λ (l : ℤ). begins by a b (l +ℤ pos 1)) e ∴ begins-rise by a b g (s.label +ℤ pos 1) ∴ simp ints (omega arith)
 
 pub loop-s-smaller : goal.loop-s-smaller
 loop-s-smaller c =
-    let d = (goal.at.loop-s-smaller c).After-following-arg-1 in
+    let d = (goal.at.loop-s-smaller c).In-loop-s in
     let s = begun d in
     let t = on c in
     let l = less s.args.by (a-row s) (b-row s) (required s).1.1.0 (walk d) c.stepped-s.result d.loop-s.invariant.0 t.walk t.label in
@@ -131,7 +133,7 @@ loop-s-smaller c =
 
 pub loop-s-preserved : goal.loop-s-preserved
 loop-s-preserved c =
-    let d = (goal.at.loop-s-preserved c).After-following-arg-1 in
+    let d = (goal.at.loop-s-preserved c).In-loop-s in
     let s = begun d in
     let v = d.loop-s.invariant in
     let t = on c in (
@@ -154,5 +156,5 @@ returns c =
     let m = s.ranges.b_distance in
     let j = s.ranges.j in
     let holds : Holds s.args.by (a-row s) (b-row s) (J s) w.label = (v.1, v.0.next ∴ h ∴ simp ints (omega arith)) in
-    let x : CoarseWalk s.args.by (a-row s) (b-row s) w × (Holds s.args.by (a-row s) (b-row s) (J s) w.label × (w.end ≡ s.args.from.end)) = (v.0, (holds, v.2)) in
-    record { walks = (simp plain at x).0; has = (simp plain at x).1; end = (simp plain at x).2 }
+    let x : CoarseWalk s.args.by (a-row s) (b-row s) w = v.0 in
+    record { walks = simp plain at x; has = simp plain at holds; end = v.2 }

@@ -42,6 +42,12 @@ start c = (goal.at.After-more c).Start
 residue-fits : (s : Start) → SFits w64 s.args.s.residue
 residue-fits s = let h = steps s in h.residue-low ∴ h.residue-high ∴ h.given.1.limits.x-high ∴ simp ints (omega arith)
 
+x_fits : (s : Start) → SFits w64 s.args.by.x
+x_fits s = let l = (steps s).given.1.limits in l.x-low ∴ l.x-high ∴ simp ints (omega arith)
+
+end_fits : (s : Start) → SFits w64 s.args.s.end
+end_fits s = let n = (steps s).walk.origin.end-near in n.0 ∴ n.1 ∴ simp ints (omega arith)
+
 more-is : (c : After-more) → c.more.result ≡ cond (eqb (m (start c)) 0) (start c).args.by.z (pos 0)
 more-is c =
     let s = start c in
@@ -49,7 +55,7 @@ more-is c =
     (simp plain at c.more.ensures) (m s) (steps s).walk.residue
 
 fit : (c : After-more) → Sums (start c).args.s (start c).args.begin.p c.more.result
-fit c = let s = start c in sums s.args.by s.pre.0 s.pre.1 s.args.s s.args.begin (eqb (m s) 0) c.more.result (steps s) (more-is c)
+fit c = let s = start c in sums s.args.by s.requires.0 s.requires.1 s.args.s s.args.begin (eqb (m s) 0) c.more.result (steps s) (more-is c)
 
 pub overflow_add-size : goal.overflow_add-size
 overflow_add-size c =
@@ -84,7 +90,7 @@ pub residue_after-requires : goal.residue_after-requires
 residue_after-requires c =
     let s = start (counted c) in
     let r = residue-fits s in
-    let x : SFits w64 s.args.by.x = sfits_of c.struct_told-7-1.given.0.1 in
+    let x = x_fits s in
     simp plain ((steps s).residue-low, (steps s).residue-high)
 
 -- the numbers of the walk then, as the machine has them
@@ -125,14 +131,14 @@ residue-is : (c : After-residue_after) → let s = start (counted (goal.at.After
 residue-is c =
     let s = start (counted (goal.at.After-residue_after c).After-struct_told-7-1) in
     let r = residue-fits s in
-    let x : SFits w64 s.args.by.x = sfits_of c.struct_told-7-1.given.0.1 in
+    let x = x_fits s in
     to_z-of_z {w = w64} (sfits_of c.residue_after.type_inv) ∙ (simp plain at c.residue_after.ensures) _ (steps s).walk.residue
 
 pub returns : goal.returns
 returns c a b h =
-    let e = (goal.at.returns c).After-struct_told-7-1 in
+    let e = (goal.at.After-residue_after (goal.at.returns c).After-residue_after).After-struct_told-7-1 in
     let s = start (counted e) in
-    let u = to_z-of_z (sfits_of c.struct_told-8-1.given.1.1.1.1.0.1) in
+    let u = to_z-of_z {w = w64} (end_fits s) in
     let walk =
     walk-on s.args.by a b h.given s.args.s _ h.walk h.before-end (record {
       begin = h.begins-there;

@@ -54,19 +54,19 @@ abbrev begun : At-loop-cursor → Start
 begun c = (goal.at.At-loop-cursor c).Start
 
 abbrev here : At-loop-cursor → Instant
-here c = record { index = c.loop-cursor.index; cursor = c.loop-cursor.cursor-1 }
+here c = record { index = c.loop-cursor.index; cursor = c.loop-cursor.cursor }
 
 near : (c : At-loop-cursor) → Near (pos c.loop-cursor.index)
 near c = seek-near (row (begun c)) (rules_own (begun c)) (J (begun c)) (here c) c.loop-cursor.invariant ∴ simp ints (omega arith)
 
 pub cursor_label-label-requires : goal.cursor_label-label-requires
-cursor_label-label-requires c = record { sound = sound (begun c); standing = (pos c.loop-cursor.index, near c, c.loop-cursor.invariant.cursor-1) }
+cursor_label-label-requires c = record { sound = sound (begun c); standing = (pos c.loop-cursor.index, near c, c.loop-cursor.invariant.cursor) }
 
 -- the test of its label
 test : (c : After-at_least) → let l = (goal.at.After-at_least c).At-loop-cursor in c.at_least.result ≡ at_least (J (begun l)) (meant (row (begun l)) (pos l.loop-cursor.index))
 test c =
     let l = (goal.at.After-at_least c).At-loop-cursor in
-    c.at_least.ensures ∙ ap (at_least (J (begun l))) (c.cursor_label-label.ensures (pos l.loop-cursor.index) l.loop-cursor.invariant.cursor-1)
+    c.at_least.ensures ∙ ap (at_least (J (begun l))) (c.cursor_label-label.ensures (pos l.loop-cursor.index) l.loop-cursor.invariant.cursor)
 
 pub returns-then-at_least : goal.returns-then-at_least
 returns-then-at_least c =
@@ -77,14 +77,16 @@ returns-then-at_least c =
     let n = s.ranges.distance in
     let j = s.ranges.j in
     let e = seek-ends (row s) (rules_own s) (J s) (here l) l.loop-cursor.invariant (sym (test d) ∙ c.if-at_least.true) in
-    record { cursor = simp plain at l.loop-cursor.invariant.cursor-1; label = simp plain at e }
+    record { cursor = simp plain at l.loop-cursor.invariant.cursor; label = simp plain at e }
 
 -- the label is below j
 not_yet : (c : Else-at_least) → let l = (goal.at.Else-at_least c).At-loop-cursor in at_least (J (begun l)) (meant (row (begun l)) (pos l.loop-cursor.index)) ≡ false
 not_yet c = sym (test (goal.at.Else-at_least c).After-at_least) ∙ c.if-at_least.false
 
 pub cursor_next-cursor-requires : goal.cursor_next-cursor-requires
-cursor_next-cursor-requires c κs = record { sound = (cursor_label-label-requires (goal.at.cursor_next-cursor-requires c).At-loop-cursor κs).0; standing = (cursor_label-label-requires (goal.at.cursor_next-cursor-requires c).At-loop-cursor κs).1 }
+cursor_next-cursor-requires c =
+    let l = (goal.at.cursor_next-cursor-requires c).At-loop-cursor in
+    record { sound = sound (begun l); standing = (pos l.loop-cursor.index, near l, l.loop-cursor.invariant.cursor) }
 
 pub overflow_add-index : goal.overflow_add-index
 overflow_add-index c =
@@ -103,4 +105,4 @@ loop-cursor-preserved c =
     let d = (goal.at.loop-cursor-preserved c).Else-at_least in
     let l = (goal.at.Else-at_least d).At-loop-cursor in
     let s = begun l in
-    seek-past (row s) (rules_own s) (J s) (here l) l.loop-cursor.invariant _ refl (c.cursor_next-cursor.ensures (pos l.loop-cursor.index) l.loop-cursor.invariant.cursor-1) (not_yet d)
+    seek-past (row s) (rules_own s) (J s) (here l) l.loop-cursor.invariant _ refl (c.cursor_next-cursor.ensures (pos l.loop-cursor.index) l.loop-cursor.invariant.cursor) (not_yet d)

@@ -133,16 +133,16 @@ begun c = (goal.at.After-cursor_at-b c).After-first_instant-v
 a-cursor : (c : After-cursor_at-b) → c.cursor_at-a.result ≡ cursor_at (a-row (begun c).before) (beginning (begun c))
 a-cursor c =
     let s = (begun c).before in
-    let p = s.fits.a_period in
-    let n = s.fits.a_distance in
+    let p = s.ranges.a_period in
+    let n = s.ranges.a_distance in
     let v = fits (begun c) in
     simp plain at c.cursor_at-a.ensures
 
 b-cursor : (c : After-cursor_at-b) → c.cursor_at-b.result ≡ cursor_at (b-row (begun c).before) (beginning (begun c))
 b-cursor c =
     let s = (begun c).before in
-    let p = s.fits.b_period in
-    let n = s.fits.b_distance in
+    let p = s.ranges.b_period in
+    let n = s.ranges.b_distance in
     let v = fits (begun c) in
     simp plain at c.cursor_at-b.ensures
 
@@ -213,5 +213,5 @@ returns c =
     record {
       begins = simp plain (begins c);
       of = simp plain (own-label (goal.at.After-first_instant-v d).Start ∙ ap some (same-granule c));
-      near = simp plain (b.0 ∴ e ∴ simp ints (omega arith), b.1 ∴ e ∴ simp ints (omega arith));
+      near = (b.0 ∴ e ∴ simp ints (omega arith), b.1 ∴ e ∴ simp ints (omega arith));
     }

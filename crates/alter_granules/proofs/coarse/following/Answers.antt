@@ -24,7 +24,7 @@ use Rattle.alter_granules.specs.declared.coarse.Begin.{Begin}
 use Rattle.alter_granules.specs.CoarseBegins.{at, CoarseBegins}
 use Rattle.alter_granules.proofs.Beginnings.{Next, next-begins}
 use Rattle.alter_granules.proofs.coarse.following.Goals as goal
-use Rattle.alter_granules.proofs.coarse.following.Goals.{After-cursor_on-a, After-cursor_on-arg-1, After-label_of-i, After-next_change-change, Start}
+use Rattle.alter_granules.proofs.coarse.following.Goals.{After-cursor_on-a, After-label_of-i, After-next_change-change, Start}
 
 -- the rows as the machine has them
 abbrev a-row : Start → Row
@@ -59,8 +59,8 @@ asked s =
     let m = s.ranges.b_distance in
     let v = valid s.args.a_period s.args.a_distance s.args.a_cells.now s.requires.sound in
     let w = valid s.args.b_period s.args.b_distance s.args.b_cells.now s.requires.sound_2 in
-    let r = s.requires.full in
-    simp plain (record { known = record { valid = (v, w); full = r.0; partition = r.1.0 }; begun = r.1.1.0; within = r.1.1.1 })
+    let r = s.requires in
+    simp plain (record { known = record { valid = (v, w); full = r.full; partition = r.partition }; begun = r.coarse_begins; within = r.within })
 
 abbrev from : Start → ℤ
 from s = at (b-row s) s.args.c
@@ -85,7 +85,7 @@ few c =
     (changed c).on ∴ (changed c).near ∴ n.high ∴ simp ints (omega arith)
 
 steps-are : (c : After-next_change-change) → to_z w64 (of_z w64 c.next_change-change.result.steps) ≡ c.next_change-change.result.steps
-steps-are c = to_z-of_z (few c ∴ simp ints (omega arith))
+steps-are c = to_z-of_z {w = w64} (few c ∴ simp ints (omega arith))
 
 abbrev there : After-next_change-change → ℤ
 there c = from (start c) +ℤ c.next_change-change.result.steps
@@ -95,7 +95,7 @@ near-there c = (asked (start c)).within ∴ few c ∴ simp ints (omega arith)
 
 pub cursor_on-a-requires : goal.cursor_on-a-requires
 cursor_on-a-requires c =
-    let n = (goal.at.cursor_on-a-requires c).After-cursor_on-arg-1 in
+    let n = (goal.at.cursor_on-a-requires c).After-next_change-change in
     let s = start n in
     record {
       sound = a-sound s;
@@ -103,9 +103,9 @@ cursor_on-a-requires c =
       pos_bound = steps-are n ∴ few n ∴ simp ints (omega arith);
     }
 
-a-cursor : (c : After-cursor_on-a) → let n = (goal.at.After-cursor_on-a c).After-cursor_on-arg-1 in c.cursor_on-a.result ≡ cursor_at (a-row (start n)) (there n)
+a-cursor : (c : After-cursor_on-a) → let n = (goal.at.After-cursor_on-a c).After-next_change-change in c.cursor_on-a.result ≡ cursor_at (a-row (start n)) (there n)
 a-cursor c =
-    let n = (goal.at.After-cursor_on-a c).After-cursor_on-arg-1 in
+    let n = (goal.at.After-cursor_on-a c).After-next_change-change in
     c.cursor_on-a.ensures (from (start n)) (asked (start n)).begun.a-cursor ∙ ap (λ (z : ℤ). cursor_at (a-row (start n)) (from (start n) +ℤ z)) (steps-are n)
 
 -- a labels the instants that b does
@@ -114,20 +114,20 @@ a-shown n = ((asked (start n)).known.partition.labelled (there n)).1 (_, (change
 
 pub label_of-p-requires : goal.label_of-p-requires
 label_of-p-requires c =
-    let n = (goal.at.label_of-p-requires c).After-cursor_on-arg-1 in
+    let n = (goal.at.label_of-p-requires c).After-next_change-change in
     record { sound = a-sound (start n); shown = (there n, near-there n, a-cursor (goal.at.label_of-p-requires c).After-cursor_on-a, a-shown n) }
 
 pub label_of-i-requires : goal.label_of-i-requires
 label_of-i-requires c =
-    let n = (goal.at.label_of-i-requires c).After-cursor_on-arg-1 in
+    let n = (goal.at.label_of-i-requires c).After-next_change-change in
     record { sound = b-sound (start n); shown = (there n, near-there n, (changed n).cursor, (_, (changed n).other.1)) }
 
 -- what is returned
 abbrev change : After-label_of-i → After-next_change-change
-change c = (goal.at.After-label_of-i c).After-cursor_on-arg-1
+change c = (goal.at.After-label_of-i c).After-next_change-change
 
 abbrev made : After-label_of-i → Begin
-made c = record { i = c.label_of-i.result; p = c.label_of-p.result; a = c.cursor_on-a.result; b = (change c).next-change.result.cursor }
+made c = record { i = c.label_of-i.result; p = c.label_of-p.result; a = c.cursor_on-a.result; b = (change c).next_change-change.result.cursor }
 
 next : (c : After-label_of-i) → let s = start (change c) in Next (a-row s) (b-row s) s.args.c (made c)
 next c =
@@ -151,5 +151,5 @@ returns c =
     record {
       begins = simp plain e.begins;
       of = simp plain e.of;
-      near = simp plain (e.behind, e.near ∴ n.period-is ∴ simp ints (omega arith));
+      near = (e.behind, e.near ∴ n.period-is ∴ simp ints (omega arith));
     }

@@ -57,16 +57,14 @@ returns-in_default c =
     let d = (goal.at.returns-in_default c).After-instant_of-found in
     let s = (goal.at.After-instant_of-found d).Start in
     let v = valid s.args.period s.args.distance s.args.cells.now s.requires.sound in
-    absurd (instant_of-none (row s) v (pos 0) (sym (found-is d) ∙ ap found c.enum_told-1.given.1) (s.requires.full (pos 0)))
+    absurd (instant_of-none (row s) v (pos 0) (sym (found-is d) ∙ ap found c.in_default.is) (s.requires.full (pos 0)))
 
 pub returns : goal.returns
 returns c =
     let d = (goal.at.returns c).After-instant_of-found in
     let s = (goal.at.After-instant_of-found d).Start in
     let v = valid s.args.period s.args.distance s.args.cells.now s.requires.sound in
-    let f : SFits w64 c.found-1.given.0.0 = sfits_of c.known_told-1.given.0.1 in
-    let e = instant_of-labelled (row s) v (pos 0) c.found-1.given.0.0 (sym (found-is d) ∙ ap found c.found-1.given.1) in
-    record {
-      label = simp plain e;
-      near = simp plain (zero-near s.args.period s.args.distance s.args.cells.now s.requires.sound c.found-1.given.0.0 e);
-    }
+    let e = instant_of-labelled (row s) v (pos 0) c.in-At.t (sym (found-is d) ∙ ap found c.in-At.is) in
+    let n = zero-near s.args.period s.args.distance s.args.cells.now s.requires.sound c.in-At.t e in
+    let f : SFits w64 c.in-At.t = n.0 ∴ n.1 ∴ simp ints (omega arith) in
+    record { label = simp plain e; near = simp plain n }

@@ -113,7 +113,7 @@ next d =
     let s = (goal.at.At-loop-n l).Start in
     let n = numbers (to_z w64 (of_z w64 s.args.b_period)) (to_z w64 (of_z w64 s.args.b_distance)) s.args.b_cells.now (b-sound s) in
     let e = d.following-next.ensures in
-    record { begins = e.0; of = e.1.0; behind = e.1.1.0; near = reach (at (b-row s) l.loop-n.c) e.1.1.1 n.period-is }
+    record { begins = e.begins; of = e.of; behind = e.near.0; near = reach (at (b-row s) l.loop-n.c) e.near.1 n.period-is }
 
 more : (c : In-loop-n) → to_z w64 c.loop-n.n-bits <ℤ count (goal.at.In-loop-n c).Start
 more c = (test-lt (to_z w64 c.loop-n.n-bits) (count (goal.at.In-loop-n c).Start)).0 c.loop-n-test.true
@@ -158,8 +158,8 @@ is_short-requires c =
     let i : SFits w64 l.loop-n.c.i = sfits_of c.struct_told-in-loop-n-2-1.given.0.1 in
     let f = size_fits d in
     record {
-      limits = simp plain ((passable (goal.at.At-loop-n l).Start).limits);
-      pos_bound = simp plain ((passable (goal.at.At-loop-n l).Start).divides);
+      limits = (passable (goal.at.At-loop-n l).Start).limits;
+      pos_bound = (passable (goal.at.At-loop-n l).Start).divides;
       within = simp plain ((small d).label);
       within_2 = simp plain ((small d).size);
     }
@@ -181,7 +181,7 @@ returns-then-is_short c =
     let l = (goal.at.After-following-next d).At-loop-n in
     let s = (goal.at.At-loop-n l).Start in
     let e =
-    passed-short s.args.by (a-row s) (b-row s) (known s) (up (common s)) (count s) s.args.start l.loop-n.c (to_z w64 l.loop-n.n-bits) l.loop-n.inv
+    passed-short s.args.by (a-row s) (b-row s) (known s) (up (common s)) (count s) s.args.start l.loop-n.c (to_z w64 l.loop-n.n-bits) l.loop-n.invariant
     (more (goal.at.After-following-next d).In-loop-n) (there d) (next d) (sym (tested (goal.at.returns-then-is_short c).After-is_short) ∙ c.if-is_short.true) in
     let p = s.ranges.a_period in
     let n = s.ranges.a_distance in
@@ -193,14 +193,14 @@ returns-then-is_short c =
 
 -- the next number
 abbrev at-loop : Else-is_short → At-loop-n
-at-loop c = (behind (goal.at.Else-is_short c).After-struct_told-in-loop-n-2-1).before.before
+at-loop c = (goal.at.Else-is_short c).At-loop-n
 
 pub overflow_add-n : goal.overflow_add-n
 overflow_add-n c =
     let l = at-loop c in
-    l.loop-n.inv.low ∴ l.loop-n.inv.high ∴ (passable (goal.at.At-loop-n l).Start).high ∴ simp ints (omega arith)
+    l.loop-n.invariant.low ∴ l.loop-n.invariant.high ∴ (passable (goal.at.At-loop-n l).Start).high ∴ simp ints (omega arith)
 
-n-next : (c : Else-is_short) → to_z w64 (of_z w64 (to_z w64 (at-loop c).loop.n +ℤ pos 1)) ≡ to_z w64 (at-loop c).loop.n +ℤ pos 1
+n-next : (c : Else-is_short) → to_z w64 (of_z w64 (to_z w64 (at-loop c).loop-n.n-bits +ℤ pos 1)) ≡ to_z w64 (at-loop c).loop-n.n-bits +ℤ pos 1
 n-next c = to_z-of_z (overflow_add-n c)
 
 pub loop-n-smaller : goal.loop-n-smaller
@@ -217,7 +217,7 @@ loop-n-preserved c =
     let s = (goal.at.At-loop-n l).Start in
     let n = numbers (to_z w64 (of_z w64 s.args.b_period)) (to_z w64 (of_z w64 s.args.b_distance)) s.args.b_cells.now (b-sound s) in
     rw (n-next c)
-    (passed-next s.args.by (a-row s) (b-row s) (known s) (up (common s)) (count s) s.args.start l.loop-n.c (to_z w64 l.loop-n.n-bits) l.loop-n.inv
+    (passed-next s.args.by (a-row s) (b-row s) (known s) (up (common s)) (count s) s.args.start l.loop-n.c (to_z w64 l.loop-n.n-bits) l.loop-n.invariant
     (more (goal.at.After-following-next d).In-loop-n) (there d) (next d) (n.high ∴ simp ints (omega arith)) (sym (tested (goal.at.loop-n-preserved c).After-is_short) ∙ c.if-is_short.false))
 
 pub returns : goal.returns

@@ -33,7 +33,7 @@ pub overflow_sub-i : goal.overflow_sub-i
 overflow_sub-i s = subst (SFits w64) (sym (less s)) (less-fits s)
 
 apart : (s : Start) → to_z w64 (of_z w64 (to_z w64 (of_z w64 s.args.i) -ℤ pos 1)) -ℤ to_z w64 (of_z w64 s.args.by.y) ≡ s.args.i -ℤ pos 1 -ℤ pos (up s.args.by.y)
-apart s = ap₂ ◌-ℤ◌ (read_as (less s) (less-fits s)) (to_z-of_z (factors s).y-fits ∙ (factors s).y-is)
+apart s = ap₂ ◌-ℤ◌ (read_as {w = w64} (less s) (less-fits s)) (to_z-of_z (factors s).y-fits ∙ (factors s).y-is)
 
 apart_fits : (s : Start) → SFits w64 (s.args.i -ℤ pos 1 -ℤ pos (up s.args.by.y))
 apart_fits s = s.requires.within.0 ∴ (factors s).y-high ∴ simp ints (omega arith)
@@ -54,8 +54,8 @@ often-bound s = let f = factors s in changes-within (up s.args.by.x) (up s.args.
 more : (c : After-floor_div-changes) → to_z w64 (of_z w64 c.floor_div-changes.result) +ℤ pos 1 ≡ often (begun c)
 more c =
     let s = begun c in
-    let e = c.floor_div-changes.ensures ∙ ap₂ (λ (t x : ℤ). floor_div t (up x)) (read_as (apart s) (apart_fits s)) (to_z-of_z (factors s).x_fits) in
-    ap (λ (q : ℤ). q +ℤ pos 1) (read_as e (often-bound s ∴ simp ints (omega arith)))
+    let e = c.floor_div-changes.ensures ∙ ap₂ (λ (t x : ℤ). floor_div t (up x)) (read_as {w = w64} (apart s) (apart_fits s)) (to_z-of_z (factors s).x_fits) in
+    ap (λ (q : ℤ). q +ℤ pos 1) (read_as {w = w64} e (often-bound s ∴ simp ints (omega arith)))
 
 often-fits : (s : Start) → SFits w64 (often s)
 often-fits s = often-bound s ∴ simp ints (omega arith)
@@ -64,7 +64,7 @@ pub overflow_add-changes : goal.overflow_add-changes
 overflow_add-changes c = subst (SFits w64) (sym (more c)) (often-fits (begun c))
 
 product : (c : After-floor_div-changes) → let s = begun c in to_z w64 (of_z w64 (to_z w64 (of_z w64 c.floor_div-changes.result) +ℤ pos 1)) *ℤ to_z w64 (of_z w64 s.args.by.z) ≡ often s *ℤ s.args.by.z
-product c = ap₂ ◌*ℤ◌ (read_as (more c) (often-fits (begun c))) (to_z-of_z (factors (begun c)).z-fits)
+product c = ap₂ ◌*ℤ◌ (read_as {w = w64} (more c) (often-fits (begun c))) (to_z-of_z (factors (begun c)).z-fits)
 
 product-bound : (s : Start) → Within (2 ^ 53) (often s *ℤ s.args.by.z)
 product-bound s =
@@ -80,7 +80,7 @@ overflow_mul-result c = subst (SFits w64) (sym (product (goal.at.overflow_mul-re
 sum : (c : After-floor_div-changes) → let s = begun c in
     to_z w64 (of_z w64 s.args.p) +ℤ to_z w64 (of_z w64 (to_z w64 (of_z w64 (to_z w64 (of_z w64 c.floor_div-changes.result) +ℤ pos 1)) *ℤ to_z w64 (of_z w64 s.args.by.z)))
     ≡ s.args.p +ℤ often s *ℤ s.args.by.z
-sum c = ap₂ ◌+ℤ◌ (to_z-of_z (begun c).ranges.p) (read_as (product c) (product-fits (begun c)))
+sum c = ap₂ ◌+ℤ◌ (to_z-of_z (begun c).ranges.p) (read_as {w = w64} (product c) (product-fits (begun c)))
 
 sum_fits : (s : Start) → SFits w64 (s.args.p +ℤ often s *ℤ s.args.by.z)
 sum_fits s = s.requires.within.1 ∴ product-bound s ∴ simp ints (omega arith)
@@ -89,4 +89,4 @@ pub overflow_add-result : goal.overflow_add-result
 overflow_add-result c = subst (SFits w64) (sym (sum (goal.at.overflow_add-result c).After-floor_div-changes)) (sum_fits (begun (goal.at.overflow_add-result c).After-floor_div-changes))
 
 pub returns : goal.returns
-returns c = read_as (sum (goal.at.returns c).After-floor_div-changes) (sum_fits (begun (goal.at.returns c).After-floor_div-changes))
+returns c = read_as {w = w64} (sum (goal.at.returns c).After-floor_div-changes) (sum_fits (begun (goal.at.returns c).After-floor_div-changes))

@@ -87,12 +87,13 @@ From s f c =
 from_is : (c : After-begin_at-from) → From (told c).before (first (told c)) (from c)
 from_is c =
     let s = (told c).before in
-    let p = s.fits.a_period in
-    let n = s.fits.a_distance in
-    let q = s.fits.b_period in
-    let m = s.fits.b_distance in
+    let p = s.ranges.a_period in
+    let n = s.ranges.a_distance in
+    let q = s.ranges.b_period in
+    let m = s.ranges.b_distance in
     let t = first_fits (told c) in
-    simp plain at c.begin_at-from.ensures
+    let e = c.begin_at-from.ensures in
+    (simp plain at e.begins, (simp plain at e.of, simp plain at e.near))
 
 pub following-begin-requires : goal.following-begin-requires
 following-begin-requires c =
@@ -128,11 +129,12 @@ Next s k c =
 begin-is : (c : After-following-begin) → Next (told (goal.at.After-following-begin c).After-begin_at-from).before (from (goal.at.After-following-begin c).After-begin_at-from) (begin c)
 begin-is c =
     let s = (told (goal.at.After-following-begin c).After-begin_at-from).before in
-    let p = s.fits.a_period in
-    let n = s.fits.a_distance in
-    let q = s.fits.b_period in
-    let m = s.fits.b_distance in
-    simp plain at c.following-begin.ensures
+    let p = s.ranges.a_period in
+    let n = s.ranges.a_distance in
+    let q = s.ranges.b_period in
+    let m = s.ranges.b_distance in
+    let e = c.following-begin.ensures in
+    (simp plain at e.begins, (e.of, simp plain at e.near))
 
 all : (c : After-following-begin) → let f = told (goal.at.After-following-begin c).After-begin_at-from in
     let s = (goal.at.After-first_labelled-first f).Start in

@@ -30,7 +30,7 @@ factors s = small s.args.by s.requires.2.given.limits
 -- what first_fine makes of a beginning
 read_first : (by : Alteration) (c : Begin) (r : ℤ) → SFits w64 c.i → SFits w64 c.p → SFits w64 (first_of by c)
     → r ≡ to_z w64 (of_z w64 c.p) +ℤ changes (up by.x) (up by.y) (to_z w64 (of_z w64 c.i) -ℤ pos 1) *ℤ by.z → to_z w64 (of_z w64 r) ≡ first_of by c
-read_first by c r i p f e = read_as (e ∙ ap₂ (λ (p i : ℤ). p +ℤ changes (up by.x) (up by.y) (i -ℤ pos 1) *ℤ by.z) (to_z-of_z p) (to_z-of_z i)) f
+read_first by c r i p f e = read_as {w = w64} (e ∙ ap₂ (λ (p i : ℤ). p +ℤ changes (up by.x) (up by.y) (i -ℤ pos 1) *ℤ by.z) (to_z-of_z p) (to_z-of_z i)) f
 
 pub first_fine-f-requires : goal.first_fine-f-requires
 first_fine-f-requires c =
@@ -40,7 +40,7 @@ first_fine-f-requires c =
     let i = n.i-fits in
     let p = n.p-fits in
     record {
-      limits = simp plain o.given.limits;
+      limits = o.given.limits;
       within = simp plain ((o.i-near.0 ∴ simp ints (omega arith), o.i-near.1 ∴ simp ints (omega arith)), (o.p-near.0 ∴ simp ints (omega arith), o.p-near.1 ∴ simp ints (omega arith)));
     }
 
@@ -48,11 +48,11 @@ first_fine-f-requires c =
 abbrev start : After-first_fine-f → Start
 start c = (goal.at.After-first_fine-f c).Start
 
-apart : (c : After-first_fine-f) → let s = start c in to_z w64 (of_z w64 s.args.first.j) -ℤ to_z w64 (of_z w64 c.first_Fine.result) ≡ s.args.first.j -ℤ first_of s.args.by s.args.from
+apart : (c : After-first_fine-f) → let s = start c in to_z w64 (of_z w64 s.args.first.j) -ℤ to_z w64 (of_z w64 c.first_fine-f.result) ≡ s.args.first.j -ℤ first_of s.args.by s.args.from
 apart c =
     let s = start c in
     let n = numbers s in
-    ap₂ ◌-ℤ◌ (to_z-of_z n.j-fits) (read_first s.args.by s.args.from c.first_Fine.result n.i-fits n.p-fits n.first_fits c.first_Fine.ensures)
+    ap₂ ◌-ℤ◌ (to_z-of_z n.j-fits) (read_first s.args.by s.args.from c.first_fine-f.result n.i-fits n.p-fits n.first_fits c.first_fine-f.ensures)
 
 pub overflow_sub-first : goal.overflow_sub-first
 overflow_sub-first c = let d = (goal.at.overflow_sub-first c).After-first_fine-f in subst (SFits w64) (sym (apart d)) (numbers (start d)).apart_fits
@@ -72,7 +72,7 @@ turns : (c : After-floor_div-turns) → to_z w64 (of_z w64 c.floor_div-turns.res
 turns c =
     let d = fined c in
     let n = numbers (start d) in
-    read_as (c.floor_div-turns.ensures ∙ ap₂ (λ (t D : ℤ). floor_div t (up D)) (read_as (apart d) n.apart_fits) (to_z-of_z n.fine-fits)) n.turns-fits
+    read_as {w = w64} (c.floor_div-turns.ensures ∙ ap₂ (λ (t D : ℤ). floor_div t (up D)) (read_as {w = w64} (apart d) n.apart_fits) (to_z-of_z n.fine-fits)) n.turns-fits
 
 -- the label
 coarse-turns : (c : After-floor_div-turns) → let s = start (fined c) in to_z w64 (of_z w64 c.floor_div-turns.result) *ℤ to_z w64 (of_z w64 s.args.repeat.coarse) ≡ k s *ℤ s.args.repeat.coarse
@@ -83,7 +83,7 @@ overflow_mul-result c = let d = (goal.at.overflow_mul-result c).After-floor_div-
 
 label : (c : After-floor_div-turns) → let s = start (fined c) in
     to_z w64 (of_z w64 s.args.from.i) +ℤ to_z w64 (of_z w64 (to_z w64 (of_z w64 c.floor_div-turns.result) *ℤ to_z w64 (of_z w64 s.args.repeat.coarse))) ≡ s.args.from.i +ℤ k s *ℤ s.args.repeat.coarse
-label c = let n = numbers (start (fined c)) in ap₂ ◌+ℤ◌ (to_z-of_z n.i-fits) (read_as (coarse-turns c) n.coarse-turns-fits)
+label c = let n = numbers (start (fined c)) in ap₂ ◌+ℤ◌ (to_z-of_z n.i-fits) (read_as {w = w64} (coarse-turns c) n.coarse-turns-fits)
 
 pub overflow_add-result : goal.overflow_add-result
 overflow_add-result c = let d = (goal.at.overflow_add-result c).After-floor_div-turns in subst (SFits w64) (sym (label d)) (numbers (start (fined d))).label-fits
@@ -96,11 +96,11 @@ pub first_fine-requires : goal.first_fine-requires
 first_fine-requires c =
     let s = start (fined (divided c)) in
     let n = numbers s in
-    let o = s.pre.2 in
+    let o = s.requires.2 in
     let i = n.next-i-fits in
     let p = n.next-p-fits in
     record {
-      limits = simp plain o.given.limits;
+      limits = o.given.limits;
       within = simp plain (n.next-i-near, (o.next-near.0 ∴ simp ints (omega arith), o.next-near.1 ∴ simp ints (omega arith)));
     }
 
@@ -110,20 +110,20 @@ before c = divided (goal.at.After-first_fine c).After-struct_told-8-1
 abbrev begun : After-first_fine → Start
 begun c = start (fined (before c))
 
-fine-turns : (c : After-first_fine) → let s = begun c in to_z w64 (of_z w64 (before c).floor-div.result) *ℤ to_z w64 (of_z w64 s.args.repeat.fine) ≡ k s *ℤ s.args.repeat.fine
+fine-turns : (c : After-first_fine) → let s = begun c in to_z w64 (of_z w64 (before c).floor_div-turns.result) *ℤ to_z w64 (of_z w64 s.args.repeat.fine) ≡ k s *ℤ s.args.repeat.fine
 fine-turns c = ap₂ ◌*ℤ◌ (turns (before c)) (to_z-of_z (numbers (begun c)).fine-fits)
 
 pub overflow_mul-result-2 : goal.overflow_mul-result-2
 overflow_mul-result-2 c = let d = (goal.at.overflow_mul-result-2 c).After-first_fine in subst (SFits w64) (sym (fine-turns d)) (numbers (begun d)).fine-turns-fits
 
 next : (c : After-first_fine) → let s = begun c in
-    to_z w64 (of_z w64 c.first_fine.result) +ℤ to_z w64 (of_z w64 (to_z w64 (of_z w64 (before c).floor-div.result) *ℤ to_z w64 (of_z w64 s.args.repeat.fine)))
+    to_z w64 (of_z w64 c.first_fine.result) +ℤ to_z w64 (of_z w64 (to_z w64 (of_z w64 (before c).floor_div-turns.result) *ℤ to_z w64 (of_z w64 s.args.repeat.fine)))
     ≡ first_of s.args.by s.args.begin +ℤ k s *ℤ s.args.repeat.fine
 next c =
     let s = begun c in
     let n = numbers s in
     ap₂ ◌+ℤ◌ (read_first s.args.by s.args.begin c.first_fine.result n.next-i-fits n.next-p-fits n.next_fits c.first_fine.ensures)
-    (read_as (fine-turns c) n.fine-turns-fits)
+    (read_as {w = w64} (fine-turns c) n.fine-turns-fits)
 
 pub overflow_add-result-2 : goal.overflow_add-result-2
 overflow_add-result-2 c = let d = (goal.at.overflow_add-result-2 c).After-first_fine in subst (SFits w64) (sym (next d)) (numbers (begun d)).sum_fits
@@ -148,7 +148,7 @@ residue c =
     let s = begun (nexted (goal.at.After-floor_mod c).After-struct_told-12-1) in
     to_z-of_z {w = w64} (sfits_of c.floor_mod.type_inv)
     ∙ c.floor_mod.ensures
-    ∙ ap₂ (λ (t x : ℤ). pos (floor_mod t (up x))) (read_as (less s) (numbers s).less-fits) (to_z-of_z (factors s).x_fits)
+    ∙ ap₂ (λ (t x : ℤ). pos (floor_mod t (up x))) (read_as {w = w64} (less s) (numbers s).less-fits) (to_z-of_z (factors s).x_fits)
 
 -- the end
 end : (s : Start) → to_z w64 (of_z w64 s.args.first.j) +ℤ to_z w64 (of_z w64 s.args.repeat.fine) ≡ s.args.first.j +ℤ s.args.repeat.fine
@@ -158,7 +158,7 @@ abbrev last : After-struct_told-14-1 → After-floor_mod
 last c = (goal.at.After-struct_told-14-1 c).After-floor_mod
 
 pub overflow_add-result-3 : goal.overflow_add-result-3
-overflow_add-result-3 c = let s = begun (nexted (last c).before) in subst (SFits w64) (sym (end s)) (numbers s).end_fits
+overflow_add-result-3 c = let s = begun (nexted (goal.at.After-floor_mod (last c)).After-struct_told-12-1) in subst (SFits w64) (sym (end s)) (numbers s).end_fits
 
 pub returns : goal.returns
 returns c a b o =
@@ -168,8 +168,8 @@ returns c a b o =
     let s = begun f in
     let n = numbers s in
     started s.args.by s.args.repeat a b s.args.first s.args.from (k s) _ o n.turned (record {
-      label = read_as (label d) n.label-fits;
-      next = read_as (next f) n.sum_fits;
+      label = read_as {w = w64} (label d) n.label-fits;
+      next = read_as {w = w64} (next f) n.sum_fits;
       residue = residue m;
-      end = read_as (end s) n.end_fits;
+      end = read_as {w = w64} (end s) n.end_fits;
     })
