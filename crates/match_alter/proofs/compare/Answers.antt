@@ -211,9 +211,9 @@ find_behind-scan-requires c =
     let s = entry l in
     let p = s.requires.comparable in
     let n = turns s in
-    let i = in-of (agreed-of d) in record { stands = ((
-      (p.a-stands, p.r-stands),
-      subst (λ (z : ℤ). Reading s.args.repeat (A s) (R s) z l.loop-seen.scan) (sym (j-read d)) record {
+    let i = in-of (agreed-of d) in record {
+      stands = (p.a-stands, p.r-stands);
+      reading = subst (λ (z : ℤ). Reading s.args.repeat (A s) (R s) z l.loop-seen.scan) (sym (j-read d)) record {
         seeking = scanned-seeks s.args.by s.args.repeat (A s) (B s) (R s) s.args.period s.requires.alterable p.is-period p.in-range l.loop-seen.scan l.loop-seen.seen l.loop-seen.inv
             (inside i) (label d) (label_is d) (past c) (same (agreed-of d)) p.room;
         labelled = scanned-reads s.args.by s.args.repeat (A s) (B s) (R s) s.args.period s.requires.alterable p.is-period p.in-range l.loop-seen.scan l.loop-seen.seen l.loop-seen.inv
@@ -221,19 +221,8 @@ find_behind-scan-requires c =
         near = label-near d;
         coarse = n.coarse-low ∴ n.middle ∴ n.fine-high ∴ simp ints (omega arith);
         fine = n.coarse-low ∴ n.middle ∴ n.fine-high ∴ simp ints (omega arith);
-      },
-    )).0; reading = ((
-      (p.a-stands, p.r-stands),
-      subst (λ (z : ℤ). Reading s.args.repeat (A s) (R s) z l.loop-seen.scan) (sym (j-read d)) record {
-        seeking = scanned-seeks s.args.by s.args.repeat (A s) (B s) (R s) s.args.period s.requires.alterable p.is-period p.in-range l.loop-seen.scan l.loop-seen.seen l.loop-seen.inv
-            (inside i) (label d) (label_is d) (past c) (same (agreed-of d)) p.room;
-        labelled = scanned-reads s.args.by s.args.repeat (A s) (B s) (R s) s.args.period s.requires.alterable p.is-period p.in-range l.loop-seen.scan l.loop-seen.seen l.loop-seen.inv
-            (inside i) (label d) (label_is d) (past c) (same (agreed-of d)) p.room;
-        near = label-near d;
-        coarse = n.coarse-low ∴ n.middle ∴ n.fine-high ∴ simp ints (omega arith);
-        fine = n.coarse-low ∴ n.middle ∴ n.fine-high ∴ simp ints (omega arith);
-      },
-    )).1 }
+      };
+    }
 
 behind : (c : After-find_behind-scan) → Finds (read_of (goal.at.After-find_behind-scan c).After-struct_told-in-loop-seen-2-1) c.find_behind-scan.result
 behind c =

@@ -89,9 +89,9 @@ pub compare-requires : goal.compare-requires
 compare-requires c =
     let k = (goal.at.compare-requires c).After-in_limits in
     let d = (goal.at.After-in_limits k).After-repeat_of-repeat in
-    let s = start d in record { alterable = ((
-      alterable d,
-      record {
+    let s = start d in record {
+      alterable = alterable d;
+      comparable = record {
         a-stands = a-stands s;
         b-stands = b-stands s;
         r-stands = s.requires.claimed.claim;
@@ -99,19 +99,8 @@ compare-requires c =
         room = few s;
         is-period = s.requires.claimed.is-period;
         in-range = sym k.in_limits.ensures ∙ not-false _ c.if-not-in_limits.false-raw;
-      },
-    )).0; comparable = ((
-      alterable d,
-      record {
-        a-stands = a-stands s;
-        b-stands = b-stands s;
-        r-stands = s.requires.claimed.claim;
-        few = s.requires.claimed.at_most;
-        room = few s;
-        is-period = s.requires.claimed.is-period;
-        in-range = sym k.in_limits.ensures ∙ not-false _ c.if-not-in_limits.false-raw;
-      },
-    )).1 }
+      };
+    }
 
 pub returns : goal.returns
 returns c = c.compare.ensures
