@@ -15,7 +15,7 @@ use Rattle.integers.proofs.Order.{le-or-lt, mul_mono, up_le}
 use Rattle.integers.proofs.Divisors.{lcm-dvd}
 use Rattle.calendar.specs.Limits.{pool_limit}
 use Rattle.calendar.specs.Meaning.{Row, meant}
-use Rattle.calendar.specs.Size.{turn, span_of, coarse, fine}
+use Rattle.calendar.specs.Size.{turn, span_of, coarse}
 use Rattle.granules.proofs.Calendars.{label-moved}
 use Rattle.algebra.proofs.Span.{rise-at-most, repeats-right, rise-positive-right}
 use Rattle.algebra.proofs.Fine.{rise_coarse, rise_fine}

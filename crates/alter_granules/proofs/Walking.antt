@@ -4,7 +4,7 @@ use mathlib.Core.Path.{◌≡◌, sym, ◌∙◌, ap, subst}
 use mathlib.Core.Option.{some}
 use mathlib.Core.Bool.{Bool, true, false, cond}
 use mathlib.Core.List.{List}
-use Prim.Native.Nat.{◌^◌, ◌≤◌, ◌<◌}
+use Prim.Native.Nat.{◌^◌, ◌≤◌}
 use native.Mathlib.Omega.{arith}
 use lib.Dec.{eqb}
 use lib.IntN.{ℤ, pos, ◌+ℤ◌, ◌-ℤ◌, ◌*ℤ◌}
@@ -26,7 +26,6 @@ use Rattle.algebra.proofs.Fine.{low}
 use Rattle.kinds.specs.declared.Alteration.{Alteration}
 use Rattle.alter_granules.specs.declared.coarse.Begin.{Begin}
 use Rattle.alter_granules.specs.declared.ahead.Walk.{Walk}
-use Rattle.kinds.specs.Limits.{Limits}
 use Rattle.alter_granules.specs.CoarseBegins.{at, CoarseBegins}
 use Rattle.alter_granules.specs.Follows.{Altering, turn_coarse, turn_fine, begins, Origin, CoarseWalk, Steps}
 use Rattle.alter_granules.proofs.Tiled.{coarse-low, begins-turns, begins-mono, begins-reflects, begins-step}

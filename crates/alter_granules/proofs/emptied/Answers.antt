@@ -25,7 +25,6 @@ use Rattle.cursors.proofs.Numbers.{Numbers, numbers, valid}
 use Rattle.algebra.proofs.Span.{span_right, rise-positive-right}
 use Rattle.algebra.proofs.Fine.{Partitioned, rise_coarse}
 use Rattle.alter_granules.specs.Given.{Emptiable}
-use Rattle.alter_granules.specs.CoarseBegins.{at}
 use Rattle.alter_granules.specs.Short.{short, Passable}
 use Rattle.alter_granules.proofs.Shortness.{emptied-pass, emptied-never}
 use Rattle.alter_granules.proofs.emptied.Goals as goal

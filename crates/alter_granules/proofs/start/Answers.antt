@@ -1,6 +1,6 @@
 -- `alter_granules::start` meets its contract: the walk starts at the first labelled instant, and the instant behind at 0.
 -- Assumes nothing.
-use borrow.Author.Rules.{rules, sfits_of}
+use borrow.Author.Rules.{sfits_of}
 use mathlib.Core.Path.{◌≡◌, sym, subst}
 use native.Mathlib.Omega.{arith}
 use lib.IntN.{ℤ}

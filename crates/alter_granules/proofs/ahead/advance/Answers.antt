@@ -1,7 +1,7 @@
 -- `alter_granules::ahead::advance` meets its contract: the walk stays where j is before the next altered granule, and else takes that one.
 -- Assumes nothing.
 use borrow.Author.Rules.{sfits_of}
-use mathlib.Core.Path.{◌≡◌, refl, ap}
+use mathlib.Core.Path.{refl, ap}
 use native.Mathlib.Omega.{arith}
 use lib.IntN.{ℤ, pos, ◌+ℤ◌}
 use lib.Signed.{◌≤ℤ◌, ◌<ℤ◌}
@@ -11,9 +11,8 @@ use Rattle.integers.proofs.Linear.{ints, ◌∴◌}
 use Rattle.integers.proofs.Machine.{plain}
 use Rattle.calendar.specs.Meaning.{Row}
 use Rattle.calendar.specs.Questions.{given}
-use Rattle.alter_granules.specs.declared.ahead.Walk.{Walk}
 use Rattle.alter_granules.specs.CoarseBegins.{CoarseBegins}
-use Rattle.alter_granules.specs.Follows.{Altering, begins, CoarseWalk, Steps, Stepped}
+use Rattle.alter_granules.specs.Follows.{Altering, begins, CoarseWalk, Steps}
 use Rattle.alter_granules.proofs.Tiled.{begins-rise}
 use Rattle.alter_granules.proofs.Walking as walking
 use Rattle.alter_granules.proofs.ahead.advance.Goals as goal

@@ -1,24 +1,11 @@
 -- `alter_granules::ahead::advance_to` meets its contract: the walk goes on until the next altered granule begins behind j.
 -- Assumes nothing.
-use borrow.Author.Rules.{sfits_of}
-use mathlib.Core.Path.{◌≡◌, refl, ◌∙◌, ap}
-use native.Mathlib.Omega.{arith}
-use lib.IntN.{ℤ, pos, ◌+ℤ◌, ◌-ℤ◌}
-use lib.Signed.{◌≤ℤ◌, ◌<ℤ◌}
-use mir.Syntax.{w64}
-use mir.Val.{SFits, to_z, of_z}
+use mathlib.Core.Path.{◌≡◌}
+use lib.IntN.{pos, ◌+ℤ◌, ◌-ℤ◌}
+use lib.Signed.{◌≤ℤ◌}
 use Rattle.integers.specs.Parts.{up}
-use Rattle.integers.proofs.Linear.{ints, ◌∴◌}
-use Rattle.integers.proofs.Machine.{plain}
-use Rattle.calendar.specs.Meaning.{Row}
 use Rattle.calendar.specs.Questions.{given}
-use Rattle.cursors.specs.Found.{Sound}
-use Rattle.kinds.specs.declared.Alteration.{Alteration}
-use Rattle.alter_granules.specs.declared.ahead.Walk.{Walk}
-use Rattle.alter_granules.specs.Follows.{Altering, begins, Holds, CoarseWalk, Steps, Stepped}
-use Rattle.alter_granules.proofs.Tiled.{begins-rise}
-use Rattle.alter_granules.proofs.Walking as walking
-use Rattle.integers.proofs.Order.{up-less}
+use Rattle.alter_granules.specs.Follows.{begins, CoarseWalk}
 use Rattle.alter_granules.proofs.ahead.advance_to.Given as goal
 
 abbrev pub invariant-loop-s : goal.invariant-loop-s
@@ -29,4 +16,3 @@ invariant-loop-s l =
 
 abbrev pub decreases-loop-s : goal.decreases-loop-s
 decreases-loop-s l = up (l.j +ℤ pos 1 -ℤ l.s.next)
-

@@ -1,6 +1,6 @@
 -- `alter_granules::ahead::stepped` meets its contract: the next coarse granule's size, changed as the altering says, is that of the next altered one.
 -- Assumes nothing.
-use borrow.Author.Rules.{rules, sfits_of}
+use borrow.Author.Rules.{sfits_of}
 use mathlib.Core.Path.{◌≡◌, refl, ◌∙◌, ap}
 use mathlib.Core.Bool.{false, cond}
 use Prim.Native.Nat.{ℕ}

@@ -1,6 +1,5 @@
 -- `alter_granules::emptying::common` meets its contract: both numbers are naturals, and a divisor of x is at most x.
 -- Assumes nothing.
-use borrow.Author.Rules.{rules}
 use mathlib.Core.Path.{◌≡◌, ◌∙◌, ap, ap₂}
 use Prim.Native.Nat.{◌^◌, ◌≤◌, ◌<◌}
 use native.Mathlib.Nat.{le_of_dvd}

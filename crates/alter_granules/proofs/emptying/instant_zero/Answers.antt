@@ -1,6 +1,5 @@
 -- `alter_granules::emptying::instant_zero` meets its contract: 0 is a label, so an instant is found; its turn is at most 1,000,000,000 from the first.
 -- Assumes nothing.
-use borrow.Author.Rules.{rules, sfits_of}
 use mathlib.Core.Path.{◌≡◌, sym, ◌∙◌, ap}
 use mathlib.Core.Option.{some}
 use mathlib.Core.List.{List}

@@ -1,6 +1,5 @@
 -- `alter_granules::emptying::is_short` meets its contract: it makes the two tests, and no number on the way is great.
 -- Assumes nothing.
-use borrow.Author.Rules.{rules}
 use mathlib.Core.Path.{◌≡◌, sym, ◌∙◌, ap}
 use mathlib.Core.Bool.{Bool, ◌&&◌}
 use native.Mathlib.Omega.{arith}

@@ -22,7 +22,7 @@ use Rattle.alter_granules.specs.CoarseBegins.{at}
 use Rattle.alter_granules.specs.Short.{short_by, Passable}
 use Rattle.alter_granules.proofs.Beginnings.{Next}
 use Rattle.integers.proofs.Order.{up-less}
-use Rattle.alter_granules.proofs.Passes.{Passed, Small, passed_start, passed-place, passed-small, passed-short, passed-next, passed-end}
+use Rattle.alter_granules.proofs.Passes.{Small, passed_start, passed-place, passed-small, passed-short, passed-next, passed-end}
 use Rattle.alter_granules.proofs.emptying.some_short.Goals as goal
 use Rattle.alter_granules.proofs.emptying.some_short.Goals.{After-following-next, After-is_short, After-struct_told-in-loop-n-1, After-struct_told-in-loop-n-2-1, At-loop-n, Else-is_short, In-loop-n, Start as Start-place}
 

@@ -1,28 +1,9 @@
 -- `alter_granules::emptying::some_short` meets its contract: it is a pass over the granules, and each next one begins where the one at hand ends.
 -- Assumes nothing.
-use borrow.Author.Rules.{sfits_of}
-use mathlib.Core.Path.{◌≡◌, sym, ◌∙◌}
-use Prim.Native.Nat.{◌^◌}
-use native.Mathlib.Omega.{arith}
-use lib.IntN.{ℤ, pos, ◌+ℤ◌, ◌-ℤ◌}
-use lib.Signed.{◌≤ℤ◌, ◌<ℤ◌}
-use mir.Facts.{to_z-of_z}
-use mir.Syntax.{w64}
-use mir.Val.{to_z, of_z, SFits}
+use lib.IntN.{◌-ℤ◌}
 use Rattle.integers.specs.Parts.{up}
-use Rattle.integers.proofs.Linear.{ints, ◌∴◌}
-use Rattle.integers.proofs.Machine.{plain, test-lt, test-not-lt}
-use Rattle.calendar.specs.Meaning.{Row}
 use Rattle.calendar.specs.Questions.{given}
-use Rattle.cursors.specs.Found.{Sound, Within}
-use Rattle.cursors.proofs.Numbers.{numbers, valid}
-use Rattle.algebra.proofs.Fine.{Partitioned}
-use Rattle.alter_granules.specs.declared.coarse.Begin.{Begin}
-use Rattle.alter_granules.specs.CoarseBegins.{at}
-use Rattle.alter_granules.specs.Short.{short_by, Passable}
-use Rattle.alter_granules.proofs.Beginnings.{Next}
-use Rattle.integers.proofs.Order.{up-less}
-use Rattle.alter_granules.proofs.Passes.{Passed, Small, passed_start, passed-place, passed-small, passed-short, passed-next, passed-end}
+use Rattle.alter_granules.proofs.Passes.{Passed}
 use Rattle.alter_granules.proofs.emptying.some_short.Given as goal
 
 abbrev pub invariant-loop-n : goal.invariant-loop-n
@@ -31,4 +12,3 @@ invariant-loop-n l =
 
 abbrev pub decreases-loop-n : goal.decreases-loop-n
 decreases-loop-n l = up (l.count -ℤ l.n)
-

@@ -1,6 +1,5 @@
 -- `alter_granules::origin::first_fine` meets its contract: it is the sum, whose parts all fit.
 -- Assumes nothing.
-use borrow.Author.Rules.{rules}
 use mathlib.Core.Path.{◌≡◌, sym, ◌∙◌, ap, ap₂, subst}
 use Prim.Native.Nat.{◌^◌}
 use native.Mathlib.Omega.{arith}

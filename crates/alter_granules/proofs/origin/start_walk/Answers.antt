@@ -1,6 +1,5 @@
 -- `alter_granules::origin::start_walk` meets its contract: the first labelled instant, b's granule there and the next one are what the walk starts from.
 -- Assumes nothing.
-use borrow.Author.Rules.{rules}
 use mathlib.Core.Path.{◌≡◌}
 use mathlib.Core.Option.{some}
 use native.Mathlib.Omega.{arith}
