@@ -1,6 +1,6 @@
 -- `fill_stretches::cell_of` meets its contract: a label within the limits fits a cell.
 -- Assumes nothing.
-use borrow.Author.Rules.{rules, sfits_of}
+use borrow.Author.Rules.{rules}
 use mathlib.Core.Path.{sym, ◌∙◌, ap}
 use mathlib.Core.Option.{Option}
 use lib.IntN.{ℤ}
@@ -16,11 +16,11 @@ use Rattle.fill_stretches.proofs.cell_of.Goals as goal
 use Rattle.fill_stretches.proofs.cell_of.Goals.{In-At}
 
 -- the label fits a number of 64 bits, and one of 32
-wide : (c : In-At) → SFits w64 c.label-1.given.0.0
-wide c = sfits_of c.known_told-1.given.0.1
+wide : (c : In-At) → SFits w64 c.in-At.j
+wide c = search rules
 
-small : (c : In-At) → SFits w32 c.label-1.given.0.0
-small c = range-fits _ (ap (λ (l : Option ℤ). if_label l in_range) (ap found (sym c.label-1.given.1)) ∙ c.requires)
+small : (c : In-At) → SFits w32 c.in-At.j
+small c = range-fits _ (ap (λ (l : Option ℤ). if_label l in_range) (ap found (sym c.in-At.is)) ∙ c.requires)
 
 pub overflow_cast-result : goal.overflow_cast-result
 overflow_cast-result c =
@@ -32,7 +32,7 @@ pub returns-in-At : goal.returns-in-At
 returns-in-At c =
     let w = wide c in
     let s = small c in
-    simp plain (ap (λ x. cell_of (found x)) (sym c.label-1.given.1))
+    simp plain (ap (λ x. cell_of (found x)) (sym c.in-At.is))
 
 pub returns-in-Nothing : goal.returns-in-Nothing
-returns-in-Nothing c = ap (λ x. cell_of (found x)) (sym c.enum_told-1.given.1)
+returns-in-Nothing c = ap (λ x. cell_of (found x)) (sym c.in-Nothing.is)

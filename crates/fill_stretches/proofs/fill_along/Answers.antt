@@ -1,12 +1,12 @@
 -- `fill_stretches::fill_along` meets its contract: each turn of the loop writes the cell of one instant.
 -- Assumes nothing.
-use borrow.Author.Rules.{rules, sfits_of}
+use borrow.Author.Rules.{rules}
 use mathlib.Core.Path.{◌≡◌, refl, sym, ◌∙◌, ap}
 use mathlib.Core.Logic.{⊎_elim}
 use mathlib.Core.Option.{Option, none, some}
 use mathlib.Core.Bool.{true}
 use mathlib.Core.List.{List}
-use Prim.Native.Nat.{ℕ, ◌+◌, ◌-◌, ◌≤◌, ◌<◌}
+use Prim.Native.Nat.{ℕ, ◌+◌, ◌≤◌, ◌<◌}
 use native.Mathlib.Omega.{arith}
 use lib.IntN.{ℤ, pos, ◌+ℤ◌}
 use lib.Signed.{◌≤ℤ◌}
@@ -120,21 +120,21 @@ pub slice_bounds-cursor_label-count : goal.slice_bounds-cursor_label-count
 slice_bounds-cursor_label-count c = (at_part (goal.at.slice_bounds-cursor_label-count c).At-loop-t).0
 
 pub slice_bounds-cursor_label-start : goal.slice_bounds-cursor_label-start
-slice_bounds-cursor_label-start c = (at_part (goal.at.slice_bounds-cursor_label-start c).After-cursor-1).0
+slice_bounds-cursor_label-start c = (at_part (goal.at.slice_bounds-cursor_label-start c).At-loop-t).0
 
 pub slice_bounds-cursor_label-end : goal.slice_bounds-cursor_label-end
-slice_bounds-cursor_label-end c = (at_part (goal.at.slice_bounds-cursor_label-end c).After-cursor-1).1
+slice_bounds-cursor_label-end c = (at_part (goal.at.slice_bounds-cursor_label-end c).At-loop-t).1
 
 pub cursor_label-label-requires : goal.cursor_label-label-requires
 cursor_label-label-requires c =
-    let i = (goal.at.cursor_label-label-requires c).At-loop-t in
-    let l = (goal.at.At-loop-t i).After-cursor-1 in
-    record { sound = (asks (base l) _ _ _ l.loop-t.invariant l.loop-t.cursor-1 l.loop-t.t i.loop-t-test.true l.loop-t.invariant.is-cursor).0; standing = (asks (base l) _ _ _ l.loop-t.invariant l.loop-t.cursor-1 l.loop-t.t i.loop-t-test.true l.loop-t.invariant.is-cursor).1 }
+    let i = (goal.at.cursor_label-label-requires c).In-loop-t in
+    let l = (goal.at.cursor_label-label-requires c).At-loop-t in
+    record { sound = (asks (base l) _ _ _ l.loop-t.invariant l.loop-t.cursor l.loop-t.t i.loop-t-test.true l.loop-t.invariant.is-cursor).0; standing = (asks (base l) _ _ _ l.loop-t.invariant l.loop-t.cursor l.loop-t.t i.loop-t-test.true l.loop-t.invariant.is-cursor).1 }
 
 -- the label of the instant
-label_is : (c : After-cursor_label-label) → let l = (goal.at.After-cursor_label-label c).After-cursor-1 in meant (row (base l)) (pos l.loop-t.t) ≡ found c.cursor_label-label.result
+label_is : (c : After-cursor_label-label) → let l = (goal.at.After-cursor_label-label c).At-loop-t in meant (row (base l)) (pos l.loop-t.t) ≡ found c.cursor_label-label.result
 label_is c =
-    let l = (goal.at.After-cursor_label-label c).After-cursor-1 in
+    let l = (goal.at.After-cursor_label-label c).At-loop-t in
     let k = kept (base l) _ _ _ l.loop-t.invariant in
     sym ((rw k at c.cursor_label-label.ensures) (pos l.loop-t.t) l.loop-t.invariant.is-cursor)
 
@@ -143,25 +143,25 @@ abbrev Shown : Type 0
 Shown = In-At
 
 abbrev at-shown : Shown → At
-at-shown c = (goal.at.In-At c).After-cursor-1
+at-shown c = (goal.at.In-At c).At-loop-t
 
 abbrev label : Shown → ℤ
-label c = c.label-1.given.0.0
+label c = c.in-At.j
 
 label-fits : (c : Shown) → SFits w64 (label c)
-label-fits c = sfits_of c.known_told-1.given.0.1
+label-fits c = search rules
 
 label-some : (c : Shown) → let l = at-shown c in meant (row (base l)) (pos l.loop-t.t) ≡ some (label c)
-label-some c = label_is (goal.at.In-At c).After-cursor_label-label ∙ ap found c.label-1.given.1
+label-some c = label_is (goal.at.In-At c).After-cursor_label-label ∙ ap found c.in-At.is
 
 pub shape_of-pool-then-high-j : goal.shape_of-pool-then-high-j
-shape_of-pool-then-high-j c = let l = at-shown (goal.at.shape_of-pool-then-high-j c).In-At in same (base l) _ _ _ l.loop-t.inv
+shape_of-pool-then-high-j c = let l = at-shown (goal.at.shape_of-pool-then-high-j c).In-At in same (base l) _ _ _ l.loop-t.invariant
 
 pub returns-then-high-j : goal.returns-then-high-j
 returns-then-high-j c =
     let k = (goal.at.returns-then-high-j c).In-At in
     let l = at-shown k in
-    let g = l.loop-t.inv in
+    let g = l.loop-t.invariant in
     let f = label-fits k in
     let a = (test-lt (H (base l)) (label k)).0 (rw (to_z-of_z f) at c.if-high-j.true) in
     ends (base l) _ _ _ record { follows = record { in-room = g.in-room; cursor = g.is-cursor }; on = g.on; cells = g.cells; below = g.below; stops = λ m. (label k, label-some k, a) }
@@ -171,10 +171,10 @@ abbrev Set : Type 0
 Set = Joined-label
 
 abbrev in-of : Set → In
-in-of c = (goal.at.Joined-label c).At-loop-t
+in-of c = (goal.at.Joined-label c).In-loop-t
 
 abbrev at_of : Set → At
-at_of c = (in-of c).before
+at_of c = (goal.at.In-loop-t (in-of c)).At-loop-t
 
 -- the label of the instant, which is not above the limit, and its cell
 abbrev Cells : (l : At) → ℤ → Type 0
@@ -182,13 +182,13 @@ Cells l z = (x : Option ℤ) × (meant (row (base l)) (pos l.loop-t.t) ≡ x) ×
 
 cells : (c : Set) → Cells (at_of c) (to_z w32 c.match-label.written-bits)
 cells c =
+    let k = (goal.at.Joined-label c).After-cursor_label-label in
     ⊎_elim
     (λ w.
-    let k : Shown = record { before = record { before = record { before = (goal.at.Joined-label c).After-cursor_label-label; match = w.0 }; label = w.1 }; known-told = w.2 } in
-    let f = label-fits k in
-    let b = (test-not-lt (H (base (at_of c))) (label k)).0 (rw (to_z-of_z f) at w.3.left) in
-    (some (label k), label-some k, λ j e. (let q : label k ≡ j = cc in rw q at b), ap (to_z w32) w.4))
-    (λ w. (none, label_is (goal.at.Joined-label c).After-cursor_label-label ∙ ap found w.1.given.1, λ j e. (let z : ◌≡◌ {A = ℕ} 0 1 = cc in absurd (omega arith)), ap (to_z w32) w.2))
+    let f : SFits w64 w.in-At.j = search rules in
+    let b = (test-not-lt (H (base (at_of c))) w.in-At.j).0 (rw (to_z-of_z f) at w.if-high-j.false) in
+    (some w.in-At.j, label_is k ∙ ap found w.in-At.is, λ j e. (let q : w.in-At.j ≡ j = cc in rw q at b), w.written-is))
+    (λ w. (none, label_is k ∙ ap found w.in-Nothing.is, λ j e. (let z : ◌≡◌ {A = ℕ} 0 1 = cc in absurd (omega arith)), w.written-is))
     c.match-label.branch-raw
 
 -- one instant more
@@ -198,10 +198,10 @@ more c next e =
     let l = at_of c in
     let s = base l in
     let x = cells c in
-    grown-more (C s) (H s) (row s) _ _ _ (old s) _ _ _ l.loop-t.inv x.0 next _ (in-of c).loop-test.true x.1 x.2 x.3 e
+    grown-more (C s) (H s) (row s) _ _ _ (old s) _ _ _ l.loop-t.invariant x.0 next _ (in-of c).loop-t-test.true x.1 x.2 x.3 e
 
 index_of : (c : Set) → let l = at_of c in ((base l).args.at + l.loop-t.t < length l.loop-t.pool) × (length l.loop-t.pool ≤ pool_limit)
-index_of c = let l = at_of c in index (base l) _ _ _ l.loop-t.inv (in-of c).loop-test.true
+index_of c = let l = at_of c in index (base l) _ _ _ l.loop-t.invariant (in-of c).loop-t-test.true
 
 pub overflow_add-written : goal.overflow_add-written
 overflow_add-written c = let h = index_of c in omega arith
@@ -224,29 +224,29 @@ pub slice_bounds-cursor_next-count : goal.slice_bounds-cursor_next-count
 slice_bounds-cursor_next-count c = (set-part c).0
 
 pub slice_bounds-cursor_next-start : goal.slice_bounds-cursor_next-start
-slice_bounds-cursor_next-start c = (set-part (goal.at.slice_bounds-cursor_next-start c).After-cursor_label-label).0
+slice_bounds-cursor_next-start c = (set-part (goal.at.slice_bounds-cursor_next-start c).Joined-label).0
 
 pub slice_bounds-cursor_next-end : goal.slice_bounds-cursor_next-end
-slice_bounds-cursor_next-end c = (set-part (goal.at.slice_bounds-cursor_next-end c).After-cursor_label-label).1
+slice_bounds-cursor_next-end c = (set-part (goal.at.slice_bounds-cursor_next-end c).Joined-label).1
 
 pub cursor_next-cursor-requires : goal.cursor_next-cursor-requires
 cursor_next-cursor-requires c =
-    let w = (goal.at.cursor_next-cursor-requires c).After-cursor_label-label in
+    let w = (goal.at.cursor_next-cursor-requires c).Joined-label in
     let l = at_of w in
-    record { sound = (asks (base l) _ _ _ (more w _ refl) l.loop-t.cursor-1 l.loop-t.t (in-of w).loop-test.true l.loop-t.inv.is-cursor).0; standing = (asks (base l) _ _ _ (more w _ refl) l.loop-t.cursor-1 l.loop-t.t (in-of w).loop-test.true l.loop-t.inv.is-cursor).1 }
+    record { sound = (asks (base l) _ _ _ (more w _ refl) l.loop-t.cursor l.loop-t.t (in-of w).loop-t-test.true l.loop-t.invariant.is-cursor).0; standing = (asks (base l) _ _ _ (more w _ refl) l.loop-t.cursor l.loop-t.t (in-of w).loop-t-test.true l.loop-t.invariant.is-cursor).1 }
 
 pub overflow_add-t : goal.overflow_add-t
-overflow_add-t c = let h = index_of (goal.at.overflow_add-t c).After-cursor_label-label in omega arith
+overflow_add-t c = let h = index_of (goal.at.overflow_add-t c).Joined-label in omega arith
 
 pub loop-t-smaller : goal.loop-t-smaller
-loop-t-smaller c = omega (arith, (in-of (goal.at.loop-t-smaller c).After-cursor_label-label).loop-test.true)
+loop-t-smaller c = omega (arith, (in-of (goal.at.loop-t-smaller c).Joined-label).loop-t-test.true)
 
 pub loop-t-preserved : goal.loop-t-preserved
 loop-t-preserved c =
-    let w = (goal.at.loop-t-preserved c).After-cursor_label-label in
+    let w = (goal.at.loop-t-preserved c).Joined-label in
     let l = at_of w in
     let k = kept (base l) _ _ _ (more w _ refl) in
-    more w c.cursor_next-cursor.result ((rw k at c.cursor_next-cursor.ensures) (pos l.loop-t.t) l.loop-t.inv.is-cursor)
+    more w c.cursor_next-cursor.result ((rw k at c.cursor_next-cursor.ensures) (pos l.loop-t.t) l.loop-t.invariant.is-cursor)
 
 -- ---- the end
 pub shape_of-pool : goal.shape_of-pool

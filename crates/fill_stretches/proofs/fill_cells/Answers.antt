@@ -1,7 +1,7 @@
 -- `fill_stretches::fill_cells` meets its contract. The loop's invariant: the cells from `from` up to i are written.
 -- Assumes nothing.
 use mathlib.Core.Path.{◌≡◌, ◌∙◌, ap}
-use Prim.Native.Nat.{ℕ, ◌-◌, ◌≤◌}
+use Prim.Native.Nat.{ℕ, ◌-◌}
 use native.Mathlib.Omega.{arith}
 use lib.IntN.{ℤ}
 use lib.ListN.{length}
@@ -29,7 +29,7 @@ same l =
     ap length l.loop-i.invariant.2 ∙ written-length (C (goal.at.At-loop-i l).Start) a.from a.pool.now (l.loop-i.i - a.from)
 
 pub offset_bounds-pool-i : goal.offset_bounds-pool-i
-offset_bounds-pool-i c = omega (arith, same (goal.at.offset_bounds-pool-i c).At-loop-i, c.well-formed.0.1)
+offset_bounds-pool-i c = omega (arith, same (goal.at.offset_bounds-pool-i c).At-loop-i, c.well_formed.0.1)
 
 pub bounds-pool-i : goal.bounds-pool-i
 bounds-pool-i c = omega (arith, same (goal.at.bounds-pool-i c).At-loop-i, c.requires)

@@ -1,15 +1,8 @@
 -- `fill_stretches::fill_cells` meets its contract. The loop's invariant: the cells from `from` up to i are written.
 -- Assumes nothing.
-use mathlib.Core.Path.{◌≡◌, ◌∙◌, ap}
-use Prim.Native.Nat.{ℕ, ◌-◌, ◌≤◌}
-use native.Mathlib.Omega.{arith}
-use lib.IntN.{ℤ}
-use lib.ListN.{length}
-use mir.Syntax.{w32}
-use mir.Val.{to_z, of_z}
-use Rattle.integers.proofs.Machine.{plain}
+use mathlib.Core.Path.{◌≡◌}
+use Prim.Native.Nat.{◌-◌, ◌≤◌}
 use Rattle.fill_stretches.specs.Stretch.{written}
-use Rattle.fill_stretches.proofs.OneCell.{written-length, written-more}
 use Rattle.fill_stretches.proofs.fill_cells.Given as goal
 
 abbrev pub invariant-loop-i : goal.invariant-loop-i
@@ -17,4 +10,3 @@ invariant-loop-i l = (l.from ≤ l.i) × (l.i ≤ l.to) × (l.pool ≡ written l
 
 abbrev pub decreases-loop-i : goal.decreases-loop-i
 decreases-loop-i l = l.to - l.i
-

@@ -1,6 +1,5 @@
 -- `fill_stretches::fill_leading` meets its contract: no label is as low as the one up to which it fills.
 -- Assumes nothing.
-use borrow.Author.Rules.{rules}
 use mathlib.Core.Path.{refl}
 use Prim.Native.Nat.{◌<◌}
 use native.Mathlib.Omega.{arith}
@@ -23,11 +22,11 @@ room s =
     simp plain s.requires
 
 pub fill_stretch-requires : goal.fill_stretch-requires
-fill_stretch-requires c = record { room = room c.before.before.before.before; follows = record { in-room = omega arith; cursor = c.cursor_at-cursor.ensures } }
+fill_stretch-requires c = record { room = room c.before.before.before; follows = record { in-room = omega arith; cursor = c.cursor_at-cursor.ensures } }
 
 pub returns : goal.returns
 returns c =
-    let s = c.before.before.before.before.before.before in
+    let s = c.before.before.before.before.before in
     let p = s.ranges.period in
     let d = s.ranges.distance in
     let x = simp plain at c.fill_stretch.ensures in

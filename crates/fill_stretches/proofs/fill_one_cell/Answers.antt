@@ -1,6 +1,5 @@
 -- `fill_stretches::fill_one_cell` meets its contract: the labels are known, and so is the end.
 -- Assumes nothing.
-use borrow.Author.Rules.{rules}
 use mathlib.Core.Path.{◌≡◌}
 use mathlib.Core.Bool.{true}
 use Prim.Native.Nat.{◌^◌, ◌<◌}

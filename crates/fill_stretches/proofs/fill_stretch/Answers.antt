@@ -1,6 +1,5 @@
 -- `fill_stretches::fill_stretch` meets its contract: both ways do.
 -- Assumes nothing.
-use borrow.Author.Rules.{rules}
 use lib.IntN.{pos}
 use mir.Facts.{sfits_lit}
 use mir.Syntax.{w64}
@@ -16,7 +15,7 @@ fill_one_cell-requires c =
     let p = s.ranges.period in
     let d = s.ranges.distance in
     let o : SFits w64 (pos 1) = sfits_lit tt in
-    record { room = (simp plain (s.requires.room, (s.requires.follows, (test-eq w64 s.args.period (pos 1) p o).0 b.if-period-eq1.true))).0; follows = (simp plain (s.requires.room, (s.requires.follows, (test-eq w64 s.args.period (pos 1) p o).0 b.if-period-eq1.true))).1; period_value = (simp plain (s.requires.room, (s.requires.follows, (test-eq w64 s.args.period (pos 1) p o).0 b.if-period-eq1.true))).2 }
+    record { room = simp plain s.requires.room; follows = simp plain s.requires.follows; period_value = simp plain ((test-eq w64 s.args.period (pos 1) p o).0 b.if-period-eq1.true) }
 
 pub returns-then-period-eq1 : goal.returns-then-period-eq1
 returns-then-period-eq1 c =

@@ -1,6 +1,6 @@
 -- `fill_stretches::in_limits` meets its contract.
 -- Assumes nothing.
-use borrow.Author.Rules.{rules, sfits_of}
+use borrow.Author.Rules.{rules}
 use mathlib.Core.Path.{sym, ◌∙◌, ap}
 use mir.Syntax.{w64}
 use mir.Val.{SFits}
@@ -14,6 +14,6 @@ use Rattle.fill_stretches.proofs.in_limits.Goals.{In-At}
 pub returns-in-At : goal.returns-in-At
 returns-in-At c =
     let k = (goal.at.returns-in-At c).In-At in
-    let w : SFits w64 k.label-1.given.0.0 = sfits_of k.known_told-1.given.0.1 in
+    let w : SFits w64 k.in-At.j = search rules in
     let e = simp plain at c.in_range.ensures in
-    e ∙ ap (λ x. if_label (found x) in_range) (sym k.label-1.given.1)
+    e ∙ ap (λ x. if_label (found x) in_range) (sym k.in-At.is)

@@ -1,6 +1,5 @@
 -- `fill_stretches::stretch_end` meets its contract: `high` is below the labels, not below them, or one of them.
 -- Assumes nothing.
-use borrow.Author.Rules.{rules}
 use Prim.Native.Nat.{ℕ, ◌^◌, ◌≤◌, ◌<◌}
 use native.Mathlib.Omega.{arith}
 use lib.IntN.{ℤ, pos, ◌+ℤ◌, ◌-ℤ◌}
@@ -75,8 +74,8 @@ low c =
     let s = base c in
     let f = s.ranges.first in
     let h = s.ranges.high in
-    let t = small s s.args.t s.pre.in-room in
-    let l = label-fits s s.args.t s.pre.in-room in
+    let t = small s s.args.t s.requires.in-room in
+    let l = label-fits s s.args.t s.requires.in-room in
     simp plain at c.if-high-first.false
 
 high : (c : Else-first-size) → (base c).args.high <ℤ ((base c).args.first +ℤ pos (base c).args.size)

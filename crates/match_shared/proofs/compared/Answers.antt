@@ -39,7 +39,7 @@ own-label c =
 next-cursor : (c : After-cursor_next-cursor) → let s = (goal.at.After-cursor_next-cursor c).After-cursor_label-arg-1 in let r = row_in s.args.pool.now s.args.r in
     (u : ℤ) → s.args.s.cursor ≡ cursor_at r u → c.cursor_next-cursor.result ≡ cursor_at r (u +ℤ pos 1)
 next-cursor c =
-    let l = (goal.at.After-cursor_next-cursor c).After-cursor_label-own in
+    let l = (goal.at.After-cursor_next-cursor c).After-struct_told-2-1 in
     let s = (goal.at.After-cursor_label-own l).After-cursor_label-arg-1 in
     subst (λ (x : Row). (u : ℤ) → s.args.s.cursor ≡ cursor_at x u → c.cursor_next-cursor.result ≡ cursor_at x (u +ℤ pos 1)) (row_is l) c.cursor_next-cursor.ensures
 
