@@ -1,18 +1,13 @@
 -- `row_maps::clear` meets its contract. The loop's invariant: the words before i are zero.
 -- Assumes nothing.
 use mathlib.Core.Path.{refl, ◌∙◌}
-use Prim.Native.Nat.{◌-◌}
 use native.Mathlib.Omega.{arith}
-use borrow.Author.Rules.{rules}
 use lib.ListN.{length}
-use Rattle.row_maps.proofs.Written.{Written, none_written, one_written, all-written, zeros-listed}
+use Rattle.row_maps.proofs.Written.{none_written, one_written, all-written, zeros-listed}
 use Rattle.row_maps.proofs.clear.Goals as goal
 
 pub loop-i-init : goal.loop-i-init
 loop-i-init c = none_written (λ k. 0) c.args.words.now
-
-pub offset_bounds-words-i : goal.offset_bounds-words-i
-offset_bounds-words-i c = omega (arith, c.loop-i.invariant.whole, c.well-formed.0.1)
 
 pub loop-i-smaller : goal.loop-i-smaller
 loop-i-smaller c = omega (arith, c.loop-i.invariant.whole)

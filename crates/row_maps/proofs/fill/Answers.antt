@@ -1,12 +1,9 @@
 -- `row_maps::fill` meets its contract. The loop's invariant: the words before i are those of the map.
 -- Assumes nothing.
 use mathlib.Core.Path.{◌∙◌, ap}
-use Prim.Native.Nat.{◌-◌}
 use native.Mathlib.Omega.{arith}
-use borrow.Author.Rules.{rules}
-use lib.ListN.{length}
 use Rattle.row_maps.specs.Making.{word_of, listed, map_of}
-use Rattle.row_maps.proofs.Written.{Written, none_written, one_written, all-written}
+use Rattle.row_maps.proofs.Written.{none_written, one_written, all-written}
 use Rattle.row_maps.proofs.fill.Goals as goal
 use Rattle.row_maps.proofs.fill.Goals.{Start}
 

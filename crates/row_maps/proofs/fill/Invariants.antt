@@ -1,12 +1,9 @@
 -- `row_maps::fill` meets its contract. The loop's invariant: the words before i are those of the map.
 -- Assumes nothing.
-use mathlib.Core.Path.{◌∙◌, ap}
 use Prim.Native.Nat.{◌-◌}
-use native.Mathlib.Omega.{arith}
-use borrow.Author.Rules.{rules}
 use lib.ListN.{length}
-use Rattle.row_maps.specs.Making.{word_of, listed, map_of}
-use Rattle.row_maps.proofs.Written.{Written, none_written, one_written, all-written}
+use Rattle.row_maps.specs.Making.{word_of}
+use Rattle.row_maps.proofs.Written.{Written}
 use Rattle.row_maps.proofs.fill.Given as goal
 
 abbrev pub invariant-loop-i : goal.invariant-loop-i
@@ -14,4 +11,3 @@ invariant-loop-i l = Written (word_of l.cells) (length l.initial.words) l.i l.wo
 
 abbrev pub decreases-loop-i : goal.decreases-loop-i
 decreases-loop-i l = length l.initial.words - l.i
-

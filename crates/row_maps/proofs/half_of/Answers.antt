@@ -2,11 +2,10 @@
 -- Assumes nothing.
 use mathlib.Core.Path.{◌≡◌, ◌∙◌, sym, ap}
 use mathlib.Core.List.{List}
-use Prim.Native.Nat.{ℕ, ◌+◌, ◌*◌, ◌-◌, ◌%◌, ◌^◌, ◌≤◌, ◌<◌}
+use Prim.Native.Nat.{ℕ, ◌+◌, ◌*◌, ◌%◌, ◌^◌, ◌≤◌, ◌<◌}
 use native.Mathlib.Omega.{arith}
-use borrow.Author.Rules.{rules}
 use lib.IntN.{ℤ}
-use Rattle.row_maps.specs.Making.{labelled, packed}
+use Rattle.row_maps.specs.Making.{packed}
 use Rattle.row_maps.proofs.Packed.{packed_zero, packed-grown}
 use Rattle.row_maps.proofs.Shows.{labelled-le}
 use Rattle.row_maps.proofs.half_of.Invariants.{bits}

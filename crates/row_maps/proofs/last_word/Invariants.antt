@@ -1,14 +1,10 @@
 -- `row_maps::last_word` meets its contract. The loop's invariant: the bits before k are packed.
 -- Assumes nothing.
-use mathlib.Core.Path.{◌≡◌, ◌∙◌, sym, ap}
+use mathlib.Core.Path.{◌≡◌}
 use mathlib.Core.List.{List}
-use Prim.Native.Nat.{ℕ, ◌+◌, ◌*◌, ◌-◌, ◌%◌, ◌^◌, ◌≤◌, ◌<◌}
-use native.Mathlib.Omega.{arith}
-use borrow.Author.Rules.{rules}
+use Prim.Native.Nat.{ℕ, ◌+◌, ◌*◌, ◌-◌, ◌≤◌}
 use lib.IntN.{ℤ}
-use Rattle.row_maps.specs.Making.{labelled, packed, word_of}
-use Rattle.row_maps.proofs.Packed.{packed_zero, packed-grown}
-use Rattle.row_maps.proofs.Shows.{labelled-le}
+use Rattle.row_maps.specs.Making.{labelled, packed}
 use Rattle.row_maps.proofs.last_word.Given as goal
 
 -- the bits of the word i
@@ -20,4 +16,3 @@ invariant-loop-k l = (l.k ≤ 64) × (l.word ≡ packed (bits l.cells l.i) l.k)
 
 abbrev pub decreases-loop-k : goal.decreases-loop-k
 decreases-loop-k l = 64 - l.k
-

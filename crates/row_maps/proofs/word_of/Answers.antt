@@ -3,7 +3,6 @@
 use mathlib.Core.Path.{◌≡◌, ap}
 use Prim.Native.Nat.{ℕ, ◌+◌, ◌*◌, ◌^◌, ◌<◌}
 use native.Mathlib.Omega.{arith}
-use borrow.Author.Rules.{rules}
 use Rattle.row_maps.specs.Making.{labelled, word_of}
 use Rattle.row_maps.proofs.Packed.{two-halves}
 use Rattle.row_maps.proofs.word_of.Goals as goal
