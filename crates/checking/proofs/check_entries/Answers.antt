@@ -41,7 +41,7 @@ Says c x =
     let l = at-loop c in
     let a = (begun l).args in
     Judges l.loop-k.k l.loop-k.used a.headings.now a.pool.now
-    (judged l.loop-k.inv.before (length a.pool.now - l.loop-k.used) (entry_at a.table.now l.loop-k.k)) x
+    (judged l.loop-k.invariant.before (length a.pool.now - l.loop-k.used) (entry_at a.table.now l.loop-k.k)) x
 
 says : (c : After-entry) → Says c c.check_entry-judged.result
 says c = let i = (at-loop c).loop.invariant in c.check_entry-judged.ensures i.before i.count i.behind
@@ -50,25 +50,25 @@ abbrev refusing : After-number → After-entry
 refusing c = (goal.at.After-number c).After-check_entry-judged
 
 pub overflow_cast-result : goal.overflow_cast-result
-overflow_cast-result c = let l = at-loop (refusing c) in omega (arith, l.loop-k.inv.at-most, (begun l).pre.at-most)
+overflow_cast-result c = let l = at-loop (refusing c) in omega (arith, l.loop-k.invariant.at-most, (begun l).pre.at-most)
 
 pub returns-in-Refused : goal.returns-in-Refused
 returns-in-Refused c =
     let e = refusing c in
     let l = at-loop e in
     rw c.number.ensures
-    (entry-refused _ _ _ _ _ _ (begun l).pre l.loop-k.inv e.loop-k-test.taken c.judged-1.given.0.0
+    (entry-refused _ _ _ _ _ _ (begun l).pre l.loop-k.invariant e.loop-k-test.taken c.judged-1.given.0.0
     (subst (Says e) c.judged-1.given.1 (says e)))
 
 -- ---- its heading or its row is wrong
 pub overflow_cast-result-in-Wrong : goal.overflow_cast-result-in-Wrong
-overflow_cast-result-in-Wrong c = let l = at-loop (goal.at.overflow_cast-result-in-Wrong c).After-check_entry-judged in omega (arith, l.loop-k.inv.at-most, (begun l).pre.at-most)
+overflow_cast-result-in-Wrong c = let l = at-loop (goal.at.overflow_cast-result-in-Wrong c).After-check_entry-judged in omega (arith, l.loop-k.invariant.at-most, (begun l).pre.at-most)
 
 pub returns-in-Wrong : goal.returns-in-Wrong
 returns-in-Wrong c =
     let e = (goal.at.returns-in-Wrong c).After-check_entry-judged in
     let l = at-loop e in
-    entry-wrong _ _ _ _ _ _ (begun l).pre l.loop-k.inv e.loop-k-test.true (subst (Says e) c.enum_told-1.given.1 (says e))
+    entry-wrong _ _ _ _ _ _ (begun l).pre l.loop-k.invariant e.loop-k-test.true (subst (Says e) c.enum_told-1.given.1 (says e))
 
 -- ---- it is right
 abbrev passing : In-Right → After-entry
@@ -84,7 +84,7 @@ pub loop-k-preserved : goal.loop-k-preserved
 loop-k-preserved c =
     let e = passing c in
     let l = at-loop e in
-    entry-right _ _ _ _ _ _ (begun l).pre l.loop-k.inv e.loop-k-test.taken _ (subst (Says e) c.judged-in-Right-1.given.1 (says e))
+    entry-right _ _ _ _ _ _ (begun l).pre l.loop-k.invariant e.loop-k-test.taken _ (subst (Says e) c.judged-in-Right-1.given.1 (says e))
 
 -- ---- all are
 pub rest_is_empty-requires : goal.rest_is_empty-requires

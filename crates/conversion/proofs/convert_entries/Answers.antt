@@ -48,7 +48,7 @@ cells c = c.convert_entry-entry.new.pool
 abbrev Says : After-entry → Appended → Type 0
 Says c x =
     let l = at-loop c in
-    Entered (begun l).args.table.now l.loop-k.k l.loop-k.inv.before x (numbers c) (cells c)
+    Entered (begun l).args.table.now l.loop-k.k l.loop-k.invariant.before x (numbers c) (cells c)
 
 says : (c : After-entry) → Says c c.convert_entry-entry.result
 says c = let i = (at-loop c).loop.invariant in c.convert_entry-entry.ensures.entered i.before i.count i.stores
@@ -68,7 +68,7 @@ refusing c = (told c).before.before.before.before.before.before
 pub overflow_cast-result : goal.overflow_cast-result
 overflow_cast-result c =
     let l = at-loop (refusing (goal.at.overflow_cast-result c).After-pool-in-Refused-1) in
-    omega (arith, l.loop-k.inv.at-most, (begun l).pre.at-most)
+    omega (arith, l.loop-k.invariant.at-most, (begun l).pre.at-most)
 
 pub shape_of-headings-in-Refused : goal.shape_of-headings-in-Refused
 shape_of-headings-in-Refused c = c.clear.auto.0 ∙ as-many-numbers (refusing (goal.at.shape_of-headings-in-Refused c).After-pool-in-Refused-1)
@@ -83,7 +83,7 @@ returns-in-Refused c =
     let e = (told (goal.at.returns-in-Refused c).After-pool-in-Refused-1).before.entry.given in
     rw c.number.ensures (
     ended-refused _ _ _ _ _ _ _
-    (standing-refused _ _ _ _ _ _ _ _ i.loop-k.inv i.loop-k-test.taken (cells a) a.convert_entry-entry.ensures.lengths.1 e.0.0 (numbers a) (subst (Says a) e.1 (says a)))
+    (standing-refused _ _ _ _ _ _ _ _ i.loop-k.invariant i.loop-k-test.taken (cells a) a.convert_entry-entry.ensures.lengths.1 e.0.0 (numbers a) (subst (Says a) e.1 (says a)))
     (cleared-as (as-many-numbers a) (as-many-cells a) c.clear.ensures))
 
 -- ---- its row stands in the pool
@@ -104,7 +104,7 @@ loop-k-preserved c =
     let a = answering c in
     let i = entering c in
     let e = c.entry-in-Ends-1.given in
-    standing-more _ _ _ _ _ _ _ _ i.loop-k.inv i.loop-k-test.taken (cells a) a.convert_entry-entry.ensures.lengths.1 _ (numbers a) a.convert_entry-entry.ensures.lengths.0 (subst (Says a) e.1 (says a))
+    standing-more _ _ _ _ _ _ _ _ i.loop-k.invariant i.loop-k-test.taken (cells a) a.convert_entry-entry.ensures.lengths.1 _ (numbers a) a.convert_entry-entry.ensures.lengths.0 (subst (Says a) e.1 (says a))
 
 -- ---- all entries stand
 pub clear_cells-requires : goal.clear_cells-requires
@@ -120,4 +120,4 @@ pub shape_of-pool : goal.shape_of-pool
 shape_of-pool c = c.clear_cells.auto.0 ∙ (ending c).before.loop.invariant.cells
 
 pub returns : goal.returns
-returns c = let l = ending c in standing-ended _ _ _ _ _ _ _ _ l.loop-k.inv l.loop-k-test.left _ c.clear_cells.ensures
+returns c = let l = ending c in standing-ended _ _ _ _ _ _ _ _ l.loop-k.invariant l.loop-k-test.left _ c.clear_cells.ensures

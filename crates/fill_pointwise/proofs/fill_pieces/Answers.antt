@@ -169,7 +169,7 @@ fill_piece-counts-requires c =
     let d = (goal.at.After-place_from-from_b q).After-lesser-count in
     let l = (inside d).before in
     let k = counted d in
-    piece-room _ _ _ _ _ _ (first l.before) (whole (entry l.before).args.a) (whole (entry l.before).args.b) _ _ _ _ _ _ _ l.loop-t.inv k.room k.first k.second _ _ q.place_from-from_a.ensures q.place_from-from_b.ensures
+    piece-room _ _ _ _ _ _ (first l.before) (whole (entry l.before).args.a) (whole (entry l.before).args.b) _ _ _ _ _ _ _ l.loop-t.invariant k.room k.first k.second _ _ q.place_from-from_a.ensures q.place_from-from_b.ensures
 
 -- the state behind the piece
 abbrev passed : After-fill_piece-counts → After-lesser-count
@@ -191,8 +191,8 @@ behind c pool g =
     let l = (inside d).before in
     let k = counted d in
     let e = c.fill_piece-counts.ensures in
-    piece-on _ _ _ _ _ _ (first l.before) (whole (entry l.before).args.a) (whole (entry l.before).args.b) _ _ _ _ _ _ _ l.loop-t.inv k.room k.first k.second _ _ q.place_from-from_a.ensures q.place_from-from_b.ensures
-    pool _ _ _ _ g e.1.0 e.1.1 refl refl
+    piece-on _ _ _ _ _ _ (first l.before) (whole (entry l.before).args.a) (whole (entry l.before).args.b) _ _ _ _ _ _ _ l.loop-t.invariant k.room k.first k.second _ _ q.place_from-from_a.ensures q.place_from-from_b.ensures
+    pool _ _ _ _ g e.labelled e.outside refl refl
 
 -- the counts are small
 few : (c : After-fill_piece-counts) → let l = (goal.at.In-loop-t (inside (passed c))).At-loop-t in
@@ -227,13 +227,13 @@ pub place_on-x-requires : goal.place_on-x-requires
 place_on-x-requires c =
     let d = passed (written c) in
     let l = (inside d).before in
-    record { count_bound = (counted d).first; near = near-rise (lent_in (entry l.before).args.a) _ (first l.before).lends.is-fillable.sounds.0 l.loop-t.x l.loop-t.t l.loop-t.inv.first (instant l) }
+    record { count_bound = (counted d).first; near = near-rise (lent_in (entry l.before).args.a) _ (first l.before).lends.is-fillable.sounds.0 l.loop-t.x l.loop-t.t l.loop-t.invariant.first (instant l) }
 
 pub place_on-y-requires : goal.place_on-y-requires
 place_on-y-requires c =
     let d = passed (written (goal.at.place_on-y-requires c).After-struct_known-in-loop-t-4-1) in
     let l = (inside d).before in
-    record { count_bound = (counted d).second; near = near-rise (lent_in (entry l.before).args.b) _ (first l.before).lends.is-fillable.sounds.1 l.loop-t.y l.loop-t.t l.loop-t.inv.second (instant l) }
+    record { count_bound = (counted d).second; near = near-rise (lent_in (entry l.before).args.b) _ (first l.before).lends.is-fillable.sounds.1 l.loop-t.y l.loop-t.t l.loop-t.invariant.second (instant l) }
 
 pub overflow_add-t : goal.overflow_add-t
 overflow_add-t c =

@@ -26,7 +26,7 @@ use Rattle.fill_pointwise.specs.Scanning.{Scans}
 use Rattle.fill_pointwise.proofs.Labels.{sound-both}
 use Rattle.fill_shared.proofs.Steps.{step-asks, step-gave}
 use Rattle.fill_pointwise.proofs.fill_stepped.Goals as goal
-use Rattle.fill_pointwise.proofs.fill_stepped.Goals.{After-cursor_at-arg-2-1, After-end_of-b_end, After-last_before-arg-1, After-last_before-last, After-step-stepped, After-store, After-struct_told-2-1, After-struct_told-3-1, After-struct_told-4-1, At-loop-t, Else-not-store, In-loop-t, Start}
+use Rattle.fill_pointwise.proofs.fill_stepped.Goals.{After-cursor_at-arg-2-1, After-last_before-last, After-step-stepped, After-store, After-struct_told-2-1, After-struct_told-4-1, At-loop-t, Else-not-store, In-loop-t, Start}
 
 pub end_of-a_end-requires : goal.end_of-a_end-requires
 end_of-a_end-requires c = record { pos_bound = c.requires.placed.a_period; a_bound = c.requires.placed.a_end }
@@ -77,43 +77,43 @@ pub slice_bounds-cursor_at-count : goal.slice_bounds-cursor_at-count
 slice_bounds-cursor_at-count c = (first c).lends.a-start
 
 pub slice_bounds-cursor_at-start : goal.slice_bounds-cursor_at-start
-slice_bounds-cursor_at-start c = (first (goal.at.slice_bounds-cursor_at-start c).After-struct_told-3-1).lends.a-start
+slice_bounds-cursor_at-start c = (first (goal.at.slice_bounds-cursor_at-start c).After-struct_told-4-1).lends.a-start
 
 pub slice_bounds-cursor_at-end : goal.slice_bounds-cursor_at-end
-slice_bounds-cursor_at-end c = (filling-ends _ _ _ _ _ _ _ _ _ (first (goal.at.slice_bounds-cursor_at-end c).After-struct_told-3-1)).0
+slice_bounds-cursor_at-end c = (filling-ends _ _ _ _ _ _ _ _ _ (first (goal.at.slice_bounds-cursor_at-end c).After-struct_told-4-1)).0
 
 pub cursor_at-c-requires : goal.cursor_at-c-requires
-cursor_at-c-requires c = record { sound = (sounds (goal.at.cursor_at-c-requires c).After-struct_told-3-1).0; near = simp ints (omega arith) }
+cursor_at-c-requires c = record { sound = (sounds (goal.at.cursor_at-c-requires c).After-struct_told-4-1).0; near = simp ints (omega arith) }
 
 pub offset_bounds-pool-b_start : goal.offset_bounds-pool-b_start
-offset_bounds-pool-b_start c = let l = (first (goal.at.offset_bounds-pool-b_start c).After-struct_told-3-1).lends in omega (arith, l.b_start, l.b_end, l.room, l.few)
+offset_bounds-pool-b_start c = let l = (first (goal.at.offset_bounds-pool-b_start c).After-struct_told-4-1).lends in omega (arith, l.b_start, l.b_end, l.room, l.few)
 
 pub slice_bounds-cursor_at-count-2 : goal.slice_bounds-cursor_at-count-2
-slice_bounds-cursor_at-count-2 c = (first (goal.at.slice_bounds-cursor_at-count-2 c).After-struct_told-3-1).lends.b-start
+slice_bounds-cursor_at-count-2 c = (first (goal.at.slice_bounds-cursor_at-count-2 c).After-struct_told-4-1).lends.b-start
 
 pub slice_bounds-cursor_at-start-2 : goal.slice_bounds-cursor_at-start-2
-slice_bounds-cursor_at-start-2 c = (first (goal.at.slice_bounds-cursor_at-start-2 c).After-end_of-b_end).lends.b-start
+slice_bounds-cursor_at-start-2 c = (first (goal.at.slice_bounds-cursor_at-start-2 c).After-struct_told-4-1).lends.b-start
 
 pub slice_bounds-cursor_at-end-2 : goal.slice_bounds-cursor_at-end-2
-slice_bounds-cursor_at-end-2 c = (filling-ends _ _ _ _ _ _ _ _ _ (first (goal.at.slice_bounds-cursor_at-end-2 c).After-end_of-b_end)).1
+slice_bounds-cursor_at-end-2 c = (filling-ends _ _ _ _ _ _ _ _ _ (first (goal.at.slice_bounds-cursor_at-end-2 c).After-struct_told-4-1)).1
 
 pub cursor_at-d-requires : goal.cursor_at-d-requires
-cursor_at-d-requires c = record { sound = (sounds (goal.at.cursor_at-d-requires c).After-end_of-b_end).1; near = simp ints (omega arith) }
+cursor_at-d-requires c = record { sound = (sounds (goal.at.cursor_at-d-requires c).After-struct_told-4-1).1; near = simp ints (omega arith) }
 
 pub offset_bounds-pool-b_start-2 : goal.offset_bounds-pool-b_start-2
-offset_bounds-pool-b_start-2 c = let l = (first (goal.at.offset_bounds-pool-b_start-2 c).After-end_of-b_end).lends in omega (arith, l.b_start, l.b_end, l.room, l.few)
+offset_bounds-pool-b_start-2 c = let l = (first (goal.at.offset_bounds-pool-b_start-2 c).After-struct_told-4-1).lends in omega (arith, l.b_start, l.b_end, l.room, l.few)
 
 pub slice_bounds-last_before-count : goal.slice_bounds-last_before-count
-slice_bounds-last_before-count c = (first (goal.at.slice_bounds-last_before-count c).After-end_of-b_end).lends.b-start
+slice_bounds-last_before-count c = (first (goal.at.slice_bounds-last_before-count c).After-struct_told-4-1).lends.b-start
 
 pub slice_bounds-last_before-start : goal.slice_bounds-last_before-start
-slice_bounds-last_before-start c = (first (goal.at.slice_bounds-last_before-start c).After-struct_told-2-1).lends.b-start
+slice_bounds-last_before-start c = (first (goal.at.slice_bounds-last_before-start c).After-struct_told-4-1).lends.b-start
 
 pub slice_bounds-last_before-end : goal.slice_bounds-last_before-end
-slice_bounds-last_before-end c = (filling-ends _ _ _ _ _ _ _ _ _ (first (goal.at.slice_bounds-last_before-end c).After-struct_told-2-1)).1
+slice_bounds-last_before-end c = (filling-ends _ _ _ _ _ _ _ _ _ (first (goal.at.slice_bounds-last_before-end c).After-struct_told-4-1)).1
 
 pub last_before-last-requires : goal.last_before-last-requires
-last_before-last-requires c = (sounds (goal.at.last_before-last-requires c).After-struct_told-2-1).1
+last_before-last-requires c = (sounds (goal.at.last_before-last-requires c).After-struct_told-4-1).1
 
 abbrev Begun : Type 0
 Begun = After-last_before-last
@@ -152,10 +152,10 @@ pub slice_bounds-step-start : goal.slice_bounds-step-start
 slice_bounds-step-start c = c.loop-t.invariant.0.lends.a_start
 
 pub slice_bounds-step-end : goal.slice_bounds-step-end
-slice_bounds-step-end c = a-end (goal.at.slice_bounds-step-end c).After-last_before-last
+slice_bounds-step-end c = a-end (goal.at.slice_bounds-step-end c).At-loop-t
 
 pub offset_bounds-pool-b_start-in-loop-t : goal.offset_bounds-pool-b_start-in-loop-t
-offset_bounds-pool-b_start-in-loop-t c = let h = index (goal.at.offset_bounds-pool-b_start-in-loop-t c).At-loop-t in omega (arith, b_end (goal.at.offset_bounds-pool-b_start-in-loop-t c).After-last_before-last, c.loop-t.invariant.0.lends.b_start)
+offset_bounds-pool-b_start-in-loop-t c = let h = index (goal.at.offset_bounds-pool-b_start-in-loop-t c).In-loop-t in omega (arith, b_end (goal.at.offset_bounds-pool-b_start-in-loop-t c).At-loop-t, c.loop-t.invariant.0.lends.b_start)
 
 pub slice_bounds-step-count-in-loop-t : goal.slice_bounds-step-count-in-loop-t
 slice_bounds-step-count-in-loop-t c = c.loop-t.invariant.0.lends.b_start
@@ -164,7 +164,7 @@ pub slice_bounds-step-start-in-loop-t : goal.slice_bounds-step-start-in-loop-t
 slice_bounds-step-start-in-loop-t c = c.loop-t.invariant.0.lends.b_start
 
 pub slice_bounds-step-end-in-loop-t : goal.slice_bounds-step-end-in-loop-t
-slice_bounds-step-end-in-loop-t c = b_end (goal.at.slice_bounds-step-end-in-loop-t c).After-last_before-last
+slice_bounds-step-end-in-loop-t c = b_end (goal.at.slice_bounds-step-end-in-loop-t c).At-loop-t
 
 pub step-stepped-requires : goal.step-stepped-requires
 step-stepped-requires c =
@@ -175,7 +175,7 @@ step-stepped-requires c =
 -- the label of the instant, and the next state
 stepped : (c : After-step-stepped) →
     let l = (goal.at.After-step-stepped c).After-last_before-last in
-    let d = told (goal.at.After-last_before-last l).After-last_before-arg-1 in
+    let d = told (goal.at.After-last_before-last l).After-last_before-last in
     let s = entry d in
     let a = row_of (a-lent d) s.args.pool.now in
     let b = row_of (b-lent d) s.args.pool.now in
@@ -185,10 +185,10 @@ stepped c =
     step-gave _ _ _ _ _ _ _ _ _ i.loop-t.invariant.0 i.loop-t-test.true _ (λ x y t. Scans x y t c.step-stepped.result.next) c.step-stepped.ensures
 
 pub overflow_add-at : goal.overflow_add-at
-overflow_add-at c = let h = index (goal.at.overflow_add-at c).At-loop-t in omega arith
+overflow_add-at c = let h = index (goal.at.overflow_add-at c).In-loop-t in omega arith
 
 pub store-requires : goal.store-requires
-store-requires c = (index (goal.at.store-requires c).At-loop-t).0
+store-requires c = (index (goal.at.store-requires c).In-loop-t).0
 
 pub shape_of-pool-then-not-store : goal.shape_of-pool-then-not-store
 shape_of-pool-then-not-store c = c.store.ensures.length ∙ filling-length _ _ _ _ _ _ _ _ _ c.loop-t.invariant.0
@@ -198,11 +198,11 @@ returns-then-not-store c =
     let n = (goal.at.returns-then-not-store c).After-store in
     let x = (goal.at.After-store n).After-step-stepped in
     let i = (goal.at.After-step-stepped x).At-loop-t in
-    as-filled (told (goal.at.At-loop-t i).After-last_before-arg-1) _ _
+    as-filled (told (goal.at.At-loop-t i).After-last_before-last) _ _
     (filling-out _ _ _ _ _ _ _ _ _ i.loop-t.invariant.0 i.loop-t-test.true _ (stepped x).0 _ (n.store.ensures.kept (not-true _ c.if-not-store.true-raw)) (sym n.store.ensures.within ∙ not-true _ c.if-not-store.true-raw))
 
 pub overflow_add-t : goal.overflow_add-t
-overflow_add-t c = let h = index (goal.at.overflow_add-t c).At-loop-t in omega arith
+overflow_add-t c = let h = index (goal.at.overflow_add-t c).In-loop-t in omega arith
 
 pub loop-t-smaller : goal.loop-t-smaller
 loop-t-smaller c = omega (arith, c.loop-t-test.true)

@@ -14,7 +14,7 @@ use Rattle.kinds.specs.Stands.{row_in}
 use Rattle.match_shared.proofs.Lent.{lent_row, lent_row_lem}
 use Rattle.match_shared.proofs.Seen.{seen_more}
 use Rattle.match_shared.proofs.compared.Goals as goal
-use Rattle.match_shared.proofs.compared.Goals.{After-cells_of-cells, After-cursor_label-arg-1, After-cursor_label-own, After-cursor_next-arg-1, After-cursor_next-cursor, After-struct_told-2-1}
+use Rattle.match_shared.proofs.compared.Goals.{After-cells_of-cells, After-cursor_label-arg-1, After-cursor_label-own, After-cursor_next-cursor, After-struct_told-2-1}
 
 row_is : (c : After-struct_told-2-1) → let e = (goal.at.After-struct_told-2-1 c).After-cursor_label-arg-1 in let s = (goal.at.After-cursor_label-arg-1 e).After-cells_of-cells in lent_row s.args.r e.cells_of-cells.result.now ≡ row_in s.args.pool.now s.args.r
 row_is c =
@@ -27,7 +27,7 @@ cursor_label-own-requires c =
     record { sound = (subst (λ (x : Row). (sound x ≡ true) × Standing x s.args.s.cursor) (sym (row_is c)) (s.requires.stands.is-sound, s.requires.standing)).0; standing = (subst (λ (x : Row). (sound x ≡ true) × Standing x s.args.s.cursor) (sym (row_is c)) (s.requires.stands.is-sound, s.requires.standing)).1 }
 
 pub cursor_next-cursor-requires : goal.cursor_next-cursor-requires
-cursor_next-cursor-requires c κs = record { sound = (cursor_label-own-requires (goal.at.cursor_next-cursor-requires c).After-cursor_label-own κs).0; standing = (cursor_label-own-requires (goal.at.cursor_next-cursor-requires c).After-cursor_label-own κs).1 }
+cursor_next-cursor-requires c = record { sound = (cursor_label-own-requires (goal.at.cursor_next-cursor-requires c).After-cursor_label-own).0; standing = (cursor_label-own-requires (goal.at.cursor_next-cursor-requires c).After-cursor_label-own).1 }
 
 -- the label of the instant in the row, and the cursor of the next
 own-label : (c : After-cursor_label-own) → let s = (goal.at.After-cursor_label-own c).After-cells_of-cells in let r = row_in s.args.pool.now s.args.r in
@@ -40,14 +40,14 @@ next-cursor : (c : After-cursor_next-cursor) → let s = (goal.at.After-cursor_n
     (u : ℤ) → s.args.s.cursor ≡ cursor_at r u → c.cursor_next-cursor.result ≡ cursor_at r (u +ℤ pos 1)
 next-cursor c =
     let l = (goal.at.After-cursor_next-cursor c).After-struct_told-2-1 in
-    let s = (goal.at.After-cursor_label-own l).After-cursor_label-arg-1 in
+    let s = (goal.at.After-struct_told-2-1 l).After-cells_of-cells in
     subst (λ (x : Row). (u : ℤ) → s.args.s.cursor ≡ cursor_at x u → c.cursor_next-cursor.result ≡ cursor_at x (u +ℤ pos 1)) (row_is l) c.cursor_next-cursor.ensures
 
 pub returns : goal.returns
 returns c o t w h e i =
     let n = (goal.at.returns c).After-cursor_next-cursor in
-    let l = (goal.at.After-cursor_next-cursor n).After-cursor_next-arg-1 in
-    let s = (goal.at.After-cursor_next-arg-1 l).After-cursor_label-arg-1 in
+    let l = (goal.at.After-cursor_next-cursor n).After-cursor_label-own in
+    let s = (goal.at.After-cursor_label-own l).After-cells_of-cells in
     let r = row_in s.args.pool.now s.args.r in
     record {
       cursor = next-cursor n (pos t) w.cursor ∙ ap (cursor_at r) (simp ints (omega arith));

@@ -128,12 +128,12 @@ loop-t-preserved c =
     let z = g.cursor_label-claimed in
     let e = (goal.at.After-still_same-same g).Else-not-at_most in
     let t = pos l.loop-t.t in
-    passed-more _ _ (row k) (claim k) _ _ _ l.loop-t.inv i.loop-t-test.taken _ _ (label_is (goal.at.Else-not-at_most e).After-cursor_label-followed)
-    (sym ((rw (claim-is k) at z.ensures) t l.loop-t.inv.follows.claim-1))
+    passed-more _ _ (row k) (claim k) _ _ _ l.loop-t.invariant i.loop-t-test.taken _ _ (label_is (goal.at.Else-not-at_most e).After-cursor_label-followed)
+    (sym ((rw (claim-is k) at z.ensures) t l.loop-t.invariant.follows.claim-1))
     ((labelled-iff _ _ (λ j. le_z-iff j _)).0 (sym e.at_most.ensures ∙ not-false _ e.if-not-at_most.false-raw))
     _ _
-    ((rw (row_is k) at c.cursor_next-cursor.ensures) t l.loop-t.inv.follows.cursor-1)
-    ((rw (claim-is k) at c.cursor_next-claim.ensures) t l.loop-t.inv.follows.claim-1)
+    ((rw (row_is k) at c.cursor_next-cursor.ensures) t l.loop-t.invariant.follows.cursor-1)
+    ((rw (claim-is k) at c.cursor_next-claim.ensures) t l.loop-t.invariant.follows.claim-1)
     _
     (g.still_same-same.ensures ∙ ap (λ (o : Option ℤ). l.loop-t.same && same_label (found z.result) o) g.where_labelled.ensures)
 

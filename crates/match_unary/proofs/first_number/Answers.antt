@@ -76,7 +76,7 @@ number_of-requires c =
     let l = s.ranges.last in
     let p = s.ranges.period in
     let d = s.ranges.distance in
-    record { fillable = (simp plain (renumber-given (goal.at.number_of-requires c).In-Renumber-2, s.requires.last_value)).0; last_value = (simp plain (renumber-given (goal.at.number_of-requires c).In-Renumber-2, s.requires.last_value)).1 }
+    record { fillable = simp plain (renumber-given (goal.at.number_of-requires c).In-Renumber-2); last_value = simp plain s.requires.last_value }
 
 -- ---- the answers
 answer : (s : Start) (u : Unary) → s.args.by ≡ u → number_in u (row s) s.args.last ≡ number_in s.args.by (row s) s.args.last

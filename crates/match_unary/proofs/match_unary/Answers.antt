@@ -162,13 +162,13 @@ own-label c =
     let i = in-label c in
     let l = (goal.at.In-loop-t i).At-loop-t in
     (subst (λ (x : Row). (u : ℤ) → l.loop-t.cursor ≡ cursor_at x u → found c.cursor_label-own.result ≡ meant x u) (a-is (told (goal.at.At-loop-t l).After-begin-seen)) c.cursor_label-own.ensures)
-    (pos l.loop-t.t) l.loop-t.inv.1.0
+    (pos l.loop-t.t) l.loop-t.invariant.1.0
 
 next-cursor : (c : After-cursor_next-cursor) → let i = in-label (goal.at.After-cursor_next-cursor c).After-cursor_label-own in c.cursor_next-cursor.result ≡ cursor_at (row (from_start i)) (pos (i.loop-t.t + 1))
 next-cursor c =
     let l = (in-label (goal.at.After-cursor_next-cursor c).After-cursor_label-own).before in
     (subst (λ (x : Row). (u : ℤ) → l.loop-t.cursor ≡ cursor_at x u → c.cursor_next-cursor.result ≡ cursor_at x (u +ℤ pos 1)) (a-is (told l.before)) c.cursor_next-cursor.ensures)
-    (pos l.loop-t.t) l.loop-t.inv.1.0
+    (pos l.loop-t.t) l.loop-t.invariant.1.0
 
 pub next_counted-k-requires : goal.next_counted-k-requires
 next_counted-k-requires c =
@@ -177,7 +177,7 @@ next_counted-k-requires c =
     let s = from_start i in
     let h = in-time i in
     let a = s.args.a in record { numbers = s.requires.fillable.numbers; within = (
-        counts-within s.args.by a.period a.distance _ (is-sound s) s.requires.fillable.numbers _ h.0 h.1 _ i.loop-t.inv.0,
+        counts-within s.args.by a.period a.distance _ (is-sound s) s.requires.fillable.numbers _ h.0 h.1 _ i.loop-t.invariant.0,
         λ j e. label_small a.period a.distance _ (is-sound s) _ j h.0 h.1 (sym (own-label o) ∙ e),
       ); within_2 =  }
 
@@ -188,7 +188,7 @@ counted c =
     let o = (goal.at.After-next_counted-k c).After-cursor_label-own in
     let i = in-label o in
     let s = from_start i in
-    c.next_counted-k.ensures (row s) (pos i.loop-t.t) (is-valid s) i.loop-t.inv.0 (own-label o)
+    c.next_counted-k.ensures (row s) (pos i.loop-t.t) (is-valid s) i.loop-t.invariant.0 (own-label o)
 
 -- the label of the instant
 abbrev in-numbered : After-numbered-label → In-loop
@@ -218,7 +218,7 @@ pub compared-seen-requires : goal.compared-seen-requires
 compared-seen-requires c =
     let i = in-numbered (goal.at.compared-seen-requires c).After-numbered-label in
     let h = claimed (from_start i) in
-    record { pos_bound = ((h.r-period, (h.claim, claim-standing h i.loop-t.inv.1.1))).0; stands = ((h.r-period, (h.claim, claim-standing h i.loop-t.inv.1.1))).1; standing = ((h.r-period, (h.claim, claim-standing h i.loop-t.inv.1.1))).2 }
+    record { pos_bound = ((h.r-period, (h.claim, claim-standing h i.loop-t.invariant.1.1))).0; stands = ((h.r-period, (h.claim, claim-standing h i.loop-t.invariant.1.1))).1; standing = ((h.r-period, (h.claim, claim-standing h i.loop-t.invariant.1.1))).2 }
 
 pub overflow_add-t : goal.overflow_add-t
 overflow_add-t c =
@@ -239,7 +239,7 @@ loop-t-preserved c =
       counted k,
       (
         next-cursor (goal.at.After-next_counted-k k).After-cursor_next-cursor,
-        c.compared-seen.ensures _ _ i.loop-t.inv.1.1 (claim-inside (claimed s) i.loop-t-test.taken) (label_is x) (sym n.in_limits.ensures ∙ not-false _ e.if-not-in_limits.false-raw),
+        c.compared-seen.ensures _ _ i.loop-t.invariant.1.1 (claim-inside (claimed s) i.loop-t-test.taken) (label_is x) (sym n.in_limits.ensures ∙ not-false _ e.if-not-in_limits.false-raw),
       ),
     )
 

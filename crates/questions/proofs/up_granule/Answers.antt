@@ -53,7 +53,7 @@ up_granule-requires c =
     let n = s.ranges.g_distance in
     let q = s.ranges.h_period in
     let m = s.ranges.h_distance in
-    record { sound = (simp plain (g-sound (goal.at.up_granule-requires c).Else-not-sound, h-sound c)).0; sound_2 = (simp plain (g-sound (goal.at.up_granule-requires c).Else-not-sound, h-sound c)).1 }
+    record { sound = simp plain (g-sound (goal.at.up_granule-requires c).Else-not-sound); sound_2 = simp plain (h-sound c) }
 
 pub returns : goal.returns
 returns c =

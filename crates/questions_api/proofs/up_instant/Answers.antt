@@ -38,4 +38,4 @@ pub returns : goal.returns
 returns c =
     let e = replied (goal.at.returns c).After-up_instant-placing in
     let k = c.of_placing.ensures in
-    record { code = ((to_z-of_z {w = w64} (sfits_of c.of_placing.type_inv) ∙ k.0 ∙ ap placed_code e, (k.1.0 ∙ ap placed_label e, k.1.1 ∙ ap placed_place e))).0; label = ((to_z-of_z {w = w64} (sfits_of c.of_placing.type_inv) ∙ k.0 ∙ ap placed_code e, (k.1.0 ∙ ap placed_label e, k.1.1 ∙ ap placed_place e))).1; place = ((to_z-of_z {w = w64} (sfits_of c.of_placing.type_inv) ∙ k.0 ∙ ap placed_code e, (k.1.0 ∙ ap placed_label e, k.1.1 ∙ ap placed_place e))).2 }
+    record { code = ((to_z-of_z {w = w64} (sfits_of c.of_placing.type_inv) ∙ k.code ∙ ap placed_code e, (k.label ∙ ap placed_label e, k.place ∙ ap placed_place e))).0; label = ((to_z-of_z {w = w64} (sfits_of c.of_placing.type_inv) ∙ k.code ∙ ap placed_code e, (k.label ∙ ap placed_label e, k.place ∙ ap placed_place e))).1; place = ((to_z-of_z {w = w64} (sfits_of c.of_placing.type_inv) ∙ k.code ∙ ap placed_code e, (k.label ∙ ap placed_label e, k.place ∙ ap placed_place e))).2 }

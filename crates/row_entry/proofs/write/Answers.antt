@@ -33,16 +33,16 @@ fill-filled-requires c =
 pub finish-requires : goal.finish-requires
 finish-requires c =
     let l = (goal.at.finish-requires c).After-struct_told-2-1 in
-    let s = l.before.before.before.before.before.before in
+    let s = (goal.at.After-struct_told-2-1 l).Start in
     let a = s.args in
     let f = fits s in
     let p = f.period in
     let d = f.distance in record { worked = ((
-      simp plain (is-worked a.kind a.extent a.a a.b a.k a.used a.headings-1.now a.pool-1.now s.requires.enterable s.requires.used_value f _
+      simp plain (is-worked a.kind a.extent a.a a.b a.k a.used a.headings.now a.pool.now s.requires.enterable s.requires.used_value f _
           _ l.fill-filled.ensures.answer c.enum_told-in-Labelled-1.given.1 l.fill-filled.ensures.row),
       s.requires.enterable.has-heading,
     )).0; heading_length_in_bounds = ((
-      simp plain (is-worked a.kind a.extent a.a a.b a.k a.used a.headings-1.now a.pool-1.now s.requires.enterable s.requires.used_value f _
+      simp plain (is-worked a.kind a.extent a.a a.b a.k a.used a.headings.now a.pool.now s.requires.enterable s.requires.used_value f _
           _ l.fill-filled.ensures.answer c.enum_told-in-Labelled-1.given.1 l.fill-filled.ensures.row),
       s.requires.enterable.has-heading,
     )).1 }
@@ -98,16 +98,16 @@ returns-in-Labelled c =
     let n = (goal.at.returns-in-Labelled c).After-finish in
     let t = (goal.at.After-finish n).In-Labelled-1 in
     let l = (goal.at.In-Labelled-1 t).After-struct_told-2-1 in
-    let s = l.before.before.before.before.before.before in
+    let s = (goal.at.After-struct_told-2-1 l).Start in
     let a = s.args in
     let f = fits s in
     let p = f.period in
     let d = f.distance in record { lengths = ((
       (shape_of-headings c, shape_of-pool-in-Labelled c),
-      became a.kind a.extent a.a a.b a.k a.used a.headings-1.now a.pool-1.now s.requires.enterable s.requires.used_value f _
+      became a.kind a.extent a.a a.b a.k a.used a.headings.now a.pool.now s.requires.enterable s.requires.used_value f _
           _ l.fill-filled.ensures.answer t.enum_told-in-Labelled-1.given.1 l.fill-filled.ensures.row _ _ _ (simp plain at n.finish.ensures),
     )).0; became = ((
       (shape_of-headings c, shape_of-pool-in-Labelled c),
-      became a.kind a.extent a.a a.b a.k a.used a.headings-1.now a.pool-1.now s.requires.enterable s.requires.used_value f _
+      became a.kind a.extent a.a a.b a.k a.used a.headings.now a.pool.now s.requires.enterable s.requires.used_value f _
           _ l.fill-filled.ensures.answer t.enum_told-in-Labelled-1.given.1 l.fill-filled.ensures.row _ _ _ (simp plain at n.finish.ensures),
     )).1 }

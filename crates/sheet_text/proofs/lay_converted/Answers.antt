@@ -11,7 +11,7 @@ use Rattle.conversion.specs.declared.Conversion.{Conversion}
 use Rattle.sheet_lines.proofs.Laying.{laid_none, relay}
 use Rattle.sheet_text.proofs.Rows.{printed-refusal, rows-there, printed-rows}
 use Rattle.sheet_text.proofs.lay_converted.Goals as goal
-use Rattle.sheet_text.proofs.lay_converted.Goals.{After-convert-arg-1, After-convert-converted, After-pool-1, After-write_refusal, After-write_rows, In-Refused-2, Start}
+use Rattle.sheet_text.proofs.lay_converted.Goals.{After-convert-converted, After-pool-1, After-write_refusal, After-write_rows, In-Refused-2, Start}
 
 abbrev start : After-convert-converted → Start
 start a = (goal.at.After-convert-converted a).Start
@@ -26,7 +26,7 @@ says a x e = subst (Says a) e (rw ((start a).requires.0, (start a).requires.1) a
 pub write_rows-requires : goal.write_rows-requires
 write_rows-requires c =
     let m = (goal.at.write_rows-requires c).After-pool-1 in
-    rows-there _ _ _ _ _ (says (goal.at.After-pool-1 m).After-convert-arg-1 _ m.enum_told-1.given.1)
+    rows-there _ _ _ _ _ (says (goal.at.After-pool-1 m).After-convert-converted _ m.enum_told-1.given.1)
 
 pub returns-in-Refused : goal.returns-in-Refused
 returns-in-Refused c =
@@ -39,5 +39,5 @@ pub returns-in-Converted : goal.returns-in-Converted
 returns-in-Converted c =
     let w = (goal.at.returns-in-Converted c).After-write_rows in
     let m = (goal.at.After-write_rows w).After-pool-1 in
-    relay (printed-rows _ _ _ _ _ (says (goal.at.After-pool-1 m).After-convert-arg-1 _ m.enum_told-1.given.1))
+    relay (printed-rows _ _ _ _ _ (says (goal.at.After-pool-1 m).After-convert-converted _ m.enum_told-1.given.1))
     (w.write_rows.ensures [] _ (laid_none _))

@@ -91,9 +91,9 @@ loop-i-preserved c =
     let e = replied (goal.at.loop-i-preserved c).After-asked-placing in
     let k = c.of_placing.ensures in (
       omega arith,
-      front-more (code r) ts _ i here s.requires.ts_in_bounds (to_z-of_z {w = w64} (sfits_of c.of_placing.type_inv) ∙ k.0 ∙ ap placed_code e) v.1,
-      front-more (label r) ts _ i here s.requires.ts_in_bounds_2 (k.1.0 ∙ ap placed_label e) v.2,
-      front-more (place r) ts _ i here s.requires.ts_in_bounds_3 (k.1.1 ∙ ap placed_place e) v.3,
+      front-more (code r) ts _ i here s.requires.ts_in_bounds (to_z-of_z {w = w64} (sfits_of c.of_placing.type_inv) ∙ k.code ∙ ap placed_code e) v.1,
+      front-more (label r) ts _ i here s.requires.ts_in_bounds_2 (k.label ∙ ap placed_label e) v.2,
+      front-more (place r) ts _ i here s.requires.ts_in_bounds_3 (k.place ∙ ap placed_place e) v.3,
     )
 
 pub shape_of-answers : goal.shape_of-answers

@@ -124,9 +124,9 @@ returns c =
     let in-places : asked s ≤ length s.args.places.now = omega (arith, k.2, d.if-places-ts.false) in
     let e : roomy s ≡ true = room-more _ _ (last-two s) in-codes ∙ room-more _ _ (last_one s) in-labels ∙ room-more _ _ [] in-places in
     let l = a.answer_all.ensures in
-    let x = l.0 in
-    let y = l.1.0 in
-    let z = l.1.1 in record { answer = ((
+    let x = l.answers in
+    let y = l.labels in
+    let z = l.places in record { answer = ((
       count-back _ (omega (arith, s.good.0.1)) ∙ sym (ap (λ (b : Bool). batch_code b ts) e),
       (
         left-all (code s) ts _ e in-codes (codes p).clear.ensures (simp plain at x),

@@ -82,8 +82,8 @@ loop-i-preserved c =
     let e = replied (goal.at.loop-i-preserved c).After-asked-up in
     let k = c.of_up.ensures in (
       omega arith,
-      front-more (code g h) zs _ i here s.requires.zs_in_bounds (to_z-of_z {w = w64} (sfits_of c.of_up.type_inv) ∙ k.0 ∙ ap up_code e) v.1,
-      front-more (label g h) zs _ i here s.requires.zs_in_bounds_2 (k.1 ∙ ap up_label e) v.2,
+      front-more (code g h) zs _ i here s.requires.zs_in_bounds (to_z-of_z {w = w64} (sfits_of c.of_up.type_inv) ∙ k.code ∙ ap up_code e) v.1,
+      front-more (label g h) zs _ i here s.requires.zs_in_bounds_2 (k.label ∙ ap up_label e) v.2,
     )
 
 pub shape_of-answers : goal.shape_of-answers

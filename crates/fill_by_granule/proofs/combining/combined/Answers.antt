@@ -35,7 +35,7 @@ cursor_label-requires c =
     let f = s.ranges in
     let a = f.a_period in
     let b = f.a_distance in
-    record { sound = (simp plain (s.requires.sound, (s.args.t, s.requires.within ∴ simp ints (omega arith), s.requires.a_value))).0; standing = (simp plain (s.requires.sound, (s.args.t, s.requires.within ∴ simp ints (omega arith), s.requires.a_value))).1 }
+    record { sound = simp plain s.requires.sound; standing = simp plain ((s.args.t, s.requires.within ∴ simp ints (omega arith), s.requires.a_value)) }
 
 pub returns-then-lies : goal.returns-then-lies
 returns-then-lies c =

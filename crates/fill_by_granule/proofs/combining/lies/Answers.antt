@@ -40,7 +40,7 @@ cursor_label-outer-requires s =
     let p = s.ranges.a_period in
     let n = s.ranges.a_distance in
     let w = s.requires.within in
-    record { sound = (simp plain (s.requires.sound, (s.args.t, (w.0 ∴ simp ints (omega arith), w.1 ∴ simp ints (omega arith)), s.requires.a_value))).0; standing = (simp plain (s.requires.sound, (s.args.t, (w.0 ∴ simp ints (omega arith), w.1 ∴ simp ints (omega arith)), s.requires.a_value))).1 }
+    record { sound = simp plain s.requires.sound; standing = simp plain ((s.args.t, (w.0 ∴ simp ints (omega arith), w.1 ∴ simp ints (omega arith)), s.requires.a_value)) }
 
 label_is : (c : After-cursor_label-outer) → let s = (goal.at.After-cursor_label-outer c).Start in meant (a-row s) s.args.t ≡ found c.cursor_label-outer.result
 label_is c =

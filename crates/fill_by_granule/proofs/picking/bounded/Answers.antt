@@ -70,4 +70,4 @@ pub returns : goal.returns
 returns c =
     let f = c.ranges.z in
     let g = small c in
-    record { low = (simp plain (λ j w. refl, λ j w. refl)).0; high = (simp plain (λ j w. refl, λ j w. refl)).1 }
+    record { low = simp plain (λ j w. refl); high = simp plain (λ j w. refl) }

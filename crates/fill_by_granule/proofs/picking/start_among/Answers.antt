@@ -55,7 +55,7 @@ returns-then-pick-gt0 c =
     let x = s.args.pick.x in
     let f = x_fits s in
     let h : pos 0 <ℤ x = simp plain at t.if-pick-gt0.true in
-    record { is = (simp plain (sym (start-above x (up s.args.n) h), (near s).0)).0; near = (simp plain (sym (start-above x (up s.args.n) h), (near s).0)).1 }
+    record { is = simp plain (sym (start-above x (up s.args.n) h)); near = simp plain ((near s).0) }
 
 pub returns-else-pick-gt0 : goal.returns-else-pick-gt0
 returns-else-pick-gt0 c =
@@ -68,4 +68,4 @@ returns-else-pick-gt0 c =
     let m = more-fits s in
     let l : x ≤ℤ pos 0 = simp plain at e.if-pick-gt0.false in
     let b : x <ℤ pos 0 = ⊎_elim (λ k. absurd (s.requires.pick_limits.not-zero (≤ℤ-antisym l k))) (λ k. k) (le-or-lt (pos 0) x) in
-    record { is = (simp plain (sym (start-below x (up s.args.n) b ∙ ap (λ (z : ℤ). z +ℤ x +ℤ pos 1) (pos-up s.requires.pos_bound.0)), (near s).1)).0; near = (simp plain (sym (start-below x (up s.args.n) b ∙ ap (λ (z : ℤ). z +ℤ x +ℤ pos 1) (pos-up s.requires.pos_bound.0)), (near s).1)).1 }
+    record { is = simp plain (sym (start-below x (up s.args.n) b ∙ ap (λ (z : ℤ). z +ℤ x +ℤ pos 1) (pos-up s.requires.pos_bound.0))); near = simp plain ((near s).1) }

@@ -102,10 +102,10 @@ pub slice_bounds-labelled_instants-count : goal.slice_bounds-labelled_instants-c
 slice_bounds-labelled_instants-count c = (b-in (goal.at.slice_bounds-labelled_instants-count c).After-end_of-b_end).0
 
 pub slice_bounds-labelled_instants-start : goal.slice_bounds-labelled_instants-start
-slice_bounds-labelled_instants-start c = (b-in (goal.at.slice_bounds-labelled_instants-start c).Start).0
+slice_bounds-labelled_instants-start c = (b-in (goal.at.slice_bounds-labelled_instants-start c).After-end_of-b_end).0
 
 pub slice_bounds-labelled_instants-end : goal.slice_bounds-labelled_instants-end
-slice_bounds-labelled_instants-end c = (b-in (goal.at.slice_bounds-labelled_instants-end c).Start).1
+slice_bounds-labelled_instants-end c = (b-in (goal.at.slice_bounds-labelled_instants-end c).After-end_of-b_end).1
 
 -- ---- a has one cell, and b no gaps
 abbrev Counted : Type 0
@@ -164,7 +164,7 @@ pub fill_granules-requires : goal.fill_granules-requires
 fill_granules-requires c =
     let s = (goal.at.fill_granules-requires c).Start in
     let n = s.ranges.span in
-    record { fillable = (simp plain (s.requires.fillable, s.requires.placed)).0; placed = (simp plain (s.requires.fillable, s.requires.placed)).1 }
+    record { fillable = simp plain s.requires.fillable; placed = simp plain s.requires.placed }
 
 pub shape_of-pool : goal.shape_of-pool
 shape_of-pool c = c.fill_granules.ensures.lengths

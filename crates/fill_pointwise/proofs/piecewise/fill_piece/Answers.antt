@@ -213,7 +213,7 @@ loop-i-preserved c =
     let z = (goal.at.After-counted-counts d).After-chosen-cell in
     let i = within-loop z in
     let l = (goal.at.In-loop-i i).At-loop-i in
-    let v = l.loop-i.inv in
+    let v = l.loop-i.invariant in
     let e = label_is z in
     record {
       within = omega (arith, i.loop-i-test.taken);

@@ -35,7 +35,7 @@ use Rattle.fill_unary.proofs.Ends.{labelled-done}
 use Rattle.fill_unary.proofs.Along.{Grouping, GroupOf, grouping-led, group-label, group-on, grouping-next}
 use Rattle.fill_unary.proofs.grouping.fill_along.Invariants.{Told, entry, old}
 use Rattle.fill_unary.proofs.grouping.fill_along.Goals as goal
-use Rattle.fill_unary.proofs.grouping.fill_along.Goals.{After-fill_leading-reached, After-fill_stretch-reached, After-group_of-group, After-in_range, After-label_of-j, After-struct_known-1, After-struct_told-2-1, At-loop-reached, Else-not-in_range, In-loop-reached, Start}
+use Rattle.fill_unary.proofs.grouping.fill_along.Goals.{After-fill_leading-reached, After-fill_stretch-reached, After-group_of-group, After-in_range, After-label_of-j, After-struct_told-2-1, At-loop-reached, Else-not-in_range, In-loop-reached, Start}
 
 -- the labels of a group, as the machine has them
 abbrev X : Told → ℤ
@@ -130,10 +130,10 @@ pub slice_bounds-label_of-count : goal.slice_bounds-label_of-count
 slice_bounds-label_of-count c = (at_part (at_of c)).0
 
 pub slice_bounds-label_of-start : goal.slice_bounds-label_of-start
-slice_bounds-label_of-start c = (at_part (at_of (goal.at.slice_bounds-label_of-start c).After-struct_known-1)).0
+slice_bounds-label_of-start c = (at_part (at_of (goal.at.slice_bounds-label_of-start c).In-loop-reached)).0
 
 pub slice_bounds-label_of-end : goal.slice_bounds-label_of-end
-slice_bounds-label_of-end c = (at_part (at_of (goal.at.slice_bounds-label_of-end c).After-struct_known-1)).1
+slice_bounds-label_of-end c = (at_part (at_of (goal.at.slice_bounds-label_of-end c).In-loop-reached)).1
 
 pub label_of-j-requires : goal.label_of-j-requires
 label_of-j-requires c =
@@ -281,7 +281,7 @@ loop-reached-preserved c = λ x y.
     let g = group_at_lem f in
     let l = stretch-at f in
     let k = base l in
-    let h = l.loop-reached.inv x y in
+    let h = l.loop-reached.invariant x y in
     grouping-next (X k) (A k) _ _ x _ _ h (inside (in-of (goal.at.After-group_of-group g).After-label_of-j)) (label (goal.at.After-group_of-group g).After-label_of-j) (label_is (goal.at.After-group_of-group g).After-label_of-j x h) g.group_of-group.result (known_of g) _ _ (stretched f x h) (within (limits_of f))
 
 -- ---- the end

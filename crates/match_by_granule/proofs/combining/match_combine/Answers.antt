@@ -105,13 +105,13 @@ near i = let s = entry (base (at_of i)) in few s.requires.fillable.sounds s.requ
 
 pub label_of-k-requires : goal.label_of-k-requires
 label_of-k-requires c =
-    let i = (goal.at.label_of-k-requires c).After-label_of-arg-1 in
+    let i = (goal.at.label_of-k-requires c).In-loop-reached in
     let l = at_of i in
     let k = base l in
     let n = near i in
     record { sound = (lent k (λ x y. (sound y ≡ true) × Shown y l.loop-reached.reached.cursor)
-    ((entry k).pre.0.sounds.1, (pos l.loop-reached.reached.t, simp ints (omega arith), l.loop-reached.inv.stage.follows.cursor, l.loop-reached.inv.stage.stops i.loop-reached-test.true))).0; shown = (lent k (λ x y. (sound y ≡ true) × Shown y l.loop-reached.reached.cursor)
-    ((entry k).pre.0.sounds.1, (pos l.loop-reached.reached.t, simp ints (omega arith), l.loop-reached.inv.stage.follows.cursor, l.loop-reached.inv.stage.stops i.loop-reached-test.true))).1 }
+    ((entry k).pre.0.sounds.1, (pos l.loop-reached.reached.t, simp ints (omega arith), l.loop-reached.invariant.stage.follows.cursor, l.loop-reached.invariant.stage.stops i.loop-reached-test.true))).0; shown = (lent k (λ x y. (sound y ≡ true) × Shown y l.loop-reached.reached.cursor)
+    ((entry k).pre.0.sounds.1, (pos l.loop-reached.reached.t, simp ints (omega arith), l.loop-reached.invariant.stage.follows.cursor, l.loop-reached.invariant.stage.stops i.loop-reached-test.true))).1 }
 
 abbrev Labelling : Type 0
 Labelling = After-label_of-k
@@ -129,7 +129,7 @@ label c = c.label_of-k.result
 label_is : (c : Labelling) → let l = loop-at c in meant (B (base l)) (pos l.loop-reached.reached.t) ≡ some (label c)
 label_is c =
     let l = loop-at c in
-    stood (base l) (λ x y. (u : ℤ) → l.loop-reached.reached.cursor ≡ cursor_at y u → meant y u ≡ some (label c)) c.label_of-k.ensures (pos l.loop-reached.reached.t) l.loop-reached.inv.stage.follows.cursor
+    stood (base l) (λ x y. (u : ℤ) → l.loop-reached.reached.cursor ≡ cursor_at y u → meant y u ≡ some (label c)) c.label_of-k.ensures (pos l.loop-reached.reached.t) l.loop-reached.invariant.stage.follows.cursor
 
 label-fits : (c : Labelling) → SFits w64 (label c)
 label-fits c = let s = entry (base (loop-at c)) in goal.label-fits (b-stands s.requires.fillable.sounds s.requires.claimed) (near (in-of c)) (label_is c)
@@ -144,10 +144,10 @@ Asks l t k x y =
 
 pub combined-label-requires : goal.combined-label-requires
 combined-label-requires c =
-    let s = (goal.at.combined-label-requires c).After-combined-arg-1 in
+    let s = (goal.at.combined-label-requires c).After-label_of-k in
     let l = loop-at s in
     let k = base l in
-    let h = l.loop-reached.inv in
+    let h = l.loop-reached.invariant in
     let n = near (in-of s) in
     let m : l.loop-reached.reached.t < 2 ^ 63 = omega arith in
     let j = label-fits s in
@@ -192,7 +192,7 @@ pub compare_stretch-reached-requires : goal.compare_stretch-reached-requires
 compare_stretch-reached-requires c =
     let l = at_label (goal.at.compare_stretch-reached-requires c).After-combined-label in
     let s = entry (base l) in
-    record { room = along-b s.requires.fillable.sounds s.requires.claimed; follows = l.loop-reached.inv.stage.follows }
+    record { room = along-b s.requires.fillable.sounds s.requires.claimed; follows = l.loop-reached.invariant.stage.follows }
 
 abbrev Compared : Type 0
 Compared = After-compare_stretch-reached
@@ -212,7 +212,7 @@ goes_on c =
     let l = at-compared c in
     let k = base l in
     let y = shown (labelled-of c) in
-    granule-on (A k) (B k) (R k) _ (entry k).pre.1.is-period _ _ _ _ l.loop-reached.inv (in-of y).if1.taken (label y) (label_is y) _ _ (stretched c)
+    granule-on (A k) (B k) (R k) _ (entry k).pre.1.is-period _ _ _ _ l.loop-reached.invariant (in-of y).if1.taken (label y) (label_is y) _ _ (stretched c)
 
 compared-few : (c : Compared) → c.compare_stretch-reached.result.t ≤ pool_limit
 compared-few c = let s = entry (base (at-compared c)) in few s.requires.fillable.sounds s.requires.claimed (stretched c).passed.follows.in-room
@@ -230,7 +230,7 @@ cursor_on-a_cursor-requires c =
     let k = base l in
     let g = goes_on f in
     let n = compared-few f in
-    record { sound = (lent k (λ x y. Stride g n l.loop-reached.a_cursor x) (stride-asks g n _ (A k) (entry k).pre.0.sounds.0 l.loop-reached.inv.is-cursor)).0; standing = (lent k (λ x y. Stride g n l.loop-reached.a_cursor x) (stride-asks g n _ (A k) (entry k).pre.0.sounds.0 l.loop-reached.inv.is-cursor)).1; pos_bound = (lent k (λ x y. Stride g n l.loop-reached.a_cursor x) (stride-asks g n _ (A k) (entry k).pre.0.sounds.0 l.loop-reached.inv.is-cursor)).2 }
+    record { sound = (lent k (λ x y. Stride g n l.loop-reached.a_cursor x) (stride-asks g n _ (A k) (entry k).pre.0.sounds.0 l.loop-reached.invariant.is-cursor)).0; standing = (lent k (λ x y. Stride g n l.loop-reached.a_cursor x) (stride-asks g n _ (A k) (entry k).pre.0.sounds.0 l.loop-reached.invariant.is-cursor)).1; pos_bound = (lent k (λ x y. Stride g n l.loop-reached.a_cursor x) (stride-asks g n _ (A k) (entry k).pre.0.sounds.0 l.loop-reached.invariant.is-cursor)).2 }
 
 -- the cursor of the next instant
 next-cursor : (c : After-cursor_on-a_cursor) → let f = (goal.at.After-cursor_on-a_cursor c).After-compare_stretch-reached in c.cursor_on-a_cursor.result ≡ cursor_at (A (base (at-compared f))) (pos f.compare_stretch-reached.result.t)
@@ -238,7 +238,7 @@ next-cursor c =
     let f = (goal.at.After-cursor_on-a_cursor c).After-compare_stretch-reached in
     let l = at-compared f in
     let k = base l in
-    stride-gave (goes_on f) (compared-few f) _ _ (A k) l.loop-reached.inv.is-cursor
+    stride-gave (goes_on f) (compared-few f) _ _ (A k) l.loop-reached.invariant.is-cursor
     (stood k (λ x y. (u : ℤ) → l.loop-reached.a_cursor ≡ cursor_at x u → c.cursor_on-a_cursor.result ≡ cursor_at x (u +ℤ to_z w64 (of_z w64 (pos (f.compare_stretch-reached.result.t - l.loop-reached.reached.t))))) c.cursor_on-a_cursor.ensures)
 
 pub loop-reached-smaller : goal.loop-reached-smaller
@@ -252,7 +252,7 @@ loop-reached-preserved c =
     let y = labelled-of f in
     let i : if_label (given-label y) in_range ≡ true = sym f.in_limits.ensures ∙ not-false _ f.if-not-in_limits.false-raw in
     rw c.any-labelled.ensures
-    (combining-next (A k) (B k) (R k) _ (entry k).pre.1.is-period _ _ _ _ l.loop-reached.inv (in-of (shown y)).loop-reached-test.true (label (shown y)) (label_is (shown y)) _ _ (stretched f)
+    (combining-next (A k) (B k) (R k) _ (entry k).pre.1.is-period _ _ _ _ l.loop-reached.invariant (in-of (shown y)).loop-reached-test.true (label (shown y)) (label_is (shown y)) _ _ (stretched f)
     (sound-valid (B k) (entry k).pre.0.sounds.1) (given-result y) i _ (next-cursor (goal.at.loop-reached-preserved c).After-cursor_on-a_cursor))
 
 pub returns : goal.returns

@@ -113,11 +113,11 @@ near i = let s = entry (base (at_of i)) in few s.requires.fillable.sounds s.requ
 
 pub label_of-j-requires : goal.label_of-j-requires
 label_of-j-requires c =
-    let i = (goal.at.label_of-j-requires c).After-label_of-arg-1 in
+    let i = (goal.at.label_of-j-requires c).In-loop-reached in
     let l = at_of i in
     let k = base l in
     let n = near i in
-    let h = l.loop-reached.inv.along.stage in
+    let h = l.loop-reached.invariant.along.stage in
     record { sound = (lent k (λ x y. (sound x ≡ true) × Shown x l.loop-reached.reached.cursor)
     ((entry k).pre.0.sounds.0, (pos l.loop-reached.reached.t, simp ints (omega arith), h.follows.cursor, h.stops i.loop-reached-test.true))).0; shown = (lent k (λ x y. (sound x ≡ true) × Shown x l.loop-reached.reached.cursor)
     ((entry k).pre.0.sounds.0, (pos l.loop-reached.reached.t, simp ints (omega arith), h.follows.cursor, h.stops i.loop-reached-test.true))).1 }
@@ -138,7 +138,7 @@ label c = c.label_of-j.result
 label_is : (c : Labelling) → let l = loop-at c in meant (A (base l)) (pos l.loop-reached.reached.t) ≡ some (label c)
 label_is c =
     let l = loop-at c in
-    stood (base l) (λ x y. (u : ℤ) → l.loop-reached.reached.cursor ≡ cursor_at x u → meant x u ≡ some (label c)) c.label_of-j.ensures (pos l.loop-reached.reached.t) l.loop-reached.inv.along.stage.follows.cursor
+    stood (base l) (λ x y. (u : ℤ) → l.loop-reached.reached.cursor ≡ cursor_at x u → meant x u ≡ some (label c)) c.label_of-j.ensures (pos l.loop-reached.reached.t) l.loop-reached.invariant.along.stage.follows.cursor
 
 label-fits : (c : Labelling) → SFits w64 (label c)
 label-fits c = let s = entry (base (loop-at c)) in Given.label-fits (a-stands s.requires.fillable.sounds s.requires.claimed) (near (in-of c)) (label_is c)
@@ -154,10 +154,10 @@ Asks l t j x y =
 
 pub decided-decision-requires : goal.decided-decision-requires
 decided-decision-requires c =
-    let s = (goal.at.decided-decision-requires c).After-decided-arg-1 in
+    let s = (goal.at.decided-decision-requires c).After-label_of-j in
     let l = loop-at s in
     let k = base l in
-    let h = l.loop-reached.inv in
+    let h = l.loop-reached.invariant in
     let g = h.along in
     let n = near (in-of s) in
     let m : l.loop-reached.reached.t < 2 ^ 63 = omega arith in
@@ -221,7 +221,7 @@ pub compare_stretch-reached-requires : goal.compare_stretch-reached-requires
 compare_stretch-reached-requires c =
     let l = at_label (goal.at.compare_stretch-reached-requires c).After-kept-label in
     let s = entry (base l) in
-    record { room = along-a s.requires.fillable.sounds s.requires.claimed; follows = l.loop-reached.inv.along.stage.follows }
+    record { room = along-a s.requires.fillable.sounds s.requires.claimed; follows = l.loop-reached.invariant.along.stage.follows }
 
 abbrev Compared : Type 0
 Compared = After-compare_stretch-reached
@@ -242,7 +242,7 @@ goes_on c =
     let k = base l in
     let d = decided-of (labelled-of c) in
     let y = shown d in
-    granule-on (by k) (A k) (B k) (R k) _ (entry k).pre.1.is-period (label y) d.decided-decision.result (decides d) _ _ _ _ _ l.loop-reached.inv (in-of y).if1.taken (label_is y) _ _ (stretched c)
+    granule-on (by k) (A k) (B k) (R k) _ (entry k).pre.1.is-period (label y) d.decided-decision.result (decides d) _ _ _ _ _ l.loop-reached.invariant (in-of y).if1.taken (label_is y) _ _ (stretched c)
 
 compared-few : (c : Compared) → c.compare_stretch-reached.result.t ≤ pool_limit
 compared-few c = let s = entry (base (at-compared c)) in few s.requires.fillable.sounds s.requires.claimed (stretched c).passed.follows.in-room
@@ -260,7 +260,7 @@ cursor_on-b_cursor-requires c =
     let k = base l in
     let g = goes_on f in
     let n = compared-few f in
-    record { sound = (lent k (λ x y. Stride g n l.loop-reached.b_cursor y) (stride-asks g n _ (B k) (entry k).pre.0.sounds.1 l.loop-reached.inv.along.is-cursor)).0; standing = (lent k (λ x y. Stride g n l.loop-reached.b_cursor y) (stride-asks g n _ (B k) (entry k).pre.0.sounds.1 l.loop-reached.inv.along.is-cursor)).1; pos_bound = (lent k (λ x y. Stride g n l.loop-reached.b_cursor y) (stride-asks g n _ (B k) (entry k).pre.0.sounds.1 l.loop-reached.inv.along.is-cursor)).2 }
+    record { sound = (lent k (λ x y. Stride g n l.loop-reached.b_cursor y) (stride-asks g n _ (B k) (entry k).pre.0.sounds.1 l.loop-reached.invariant.along.is-cursor)).0; standing = (lent k (λ x y. Stride g n l.loop-reached.b_cursor y) (stride-asks g n _ (B k) (entry k).pre.0.sounds.1 l.loop-reached.invariant.along.is-cursor)).1; pos_bound = (lent k (λ x y. Stride g n l.loop-reached.b_cursor y) (stride-asks g n _ (B k) (entry k).pre.0.sounds.1 l.loop-reached.invariant.along.is-cursor)).2 }
 
 -- the cursor of the next instant
 next-cursor : (c : After-cursor_on-b_cursor) → let f = (goal.at.After-cursor_on-b_cursor c).After-compare_stretch-reached in c.cursor_on-b_cursor.result ≡ cursor_at (B (base (at-compared f))) (pos f.compare_stretch-reached.result.t)
@@ -268,7 +268,7 @@ next-cursor c =
     let f = (goal.at.After-cursor_on-b_cursor c).After-compare_stretch-reached in
     let l = at-compared f in
     let k = base l in
-    stride-gave (goes_on f) (compared-few f) _ _ (B k) l.loop-reached.inv.along.is-cursor
+    stride-gave (goes_on f) (compared-few f) _ _ (B k) l.loop-reached.invariant.along.is-cursor
     (stood k (λ x y. (u : ℤ) → l.loop-reached.b_cursor ≡ cursor_at y u → c.cursor_on-b_cursor.result ≡ cursor_at y (u +ℤ to_z w64 (of_z w64 (pos (f.compare_stretch-reached.result.t - l.loop-reached.reached.t))))) c.cursor_on-b_cursor.ensures)
 
 pub loop-reached-smaller : goal.loop-reached-smaller
@@ -283,7 +283,7 @@ loop-reached-preserved c =
     let d = decided-of y in
     let i : if_label (given-label y) in_range ≡ true = sym f.in_limits.ensures ∙ not-false _ f.if-not-in_limits.false-raw in
     rw c.any-labelled.ensures
-    (selecting-next (by k) (A k) (B k) (R k) _ (entry k).pre.1.is-period (label (shown d)) d.decided-decision.result (decides d) _ _ _ _ _ l.loop-reached.inv (in-of (shown d)).loop-reached-test.true (label_is (shown d)) _ _ (stretched f)
+    (selecting-next (by k) (A k) (B k) (R k) _ (entry k).pre.1.is-period (label (shown d)) d.decided-decision.result (decides d) _ _ _ _ _ l.loop-reached.invariant (in-of (shown d)).loop-reached-test.true (label_is (shown d)) _ _ (stretched f)
     (sound-valid (A k) (entry k).pre.0.sounds.0) (given_is y) i _ (next-cursor (goal.at.loop-reached-preserved c).After-cursor_on-b_cursor))
 
 pub returns : goal.returns

@@ -67,7 +67,7 @@ place-requires c =
     let p = s.ranges.period in
     let n = s.ranges.distance in
     let l : SFits w64 c.last_instant-last.result = sfits_of c.last_instant-last.type_inv in
-    record { sound = (simp plain (s.requires.sound, ((own s, labelled c), near c))).0; labelled = (simp plain (s.requires.sound, ((own s, labelled c), near c))).1 }
+    record { sound = simp plain s.requires.sound; labelled = simp plain (((own s, labelled c), near c)) }
 
 pub returns : goal.returns
 returns c j e =

@@ -62,7 +62,7 @@ instant_of-at-requires c =
     let p = s.ranges.g_period in
     let n = s.ranges.g_distance in
     let z = s.ranges.z in
-    record { sound = (simp plain (s.requires.sound, (in-range s.args.z).0 (is-ranged c))).0; within = (simp plain (s.requires.sound, (in-range s.args.z).0 (is-ranged c))).1 }
+    record { sound = simp plain s.requires.sound; within = simp plain ((in-range s.args.z).0 (is-ranged c)) }
 
 found-is : (c : After-instant_of-at) → instant_of (g-row (begun (goal.at.After-instant_of-at c).Else-not-in_range)) (begun (goal.at.After-instant_of-at c).Else-not-in_range).args.z ≡ found c.instant_of-at.result
 found-is c =

@@ -44,7 +44,7 @@ label_at-label-requires c =
     let p = s.ranges.period in
     let n = s.ranges.distance in
     let t = s.ranges.t in
-    record { sound = (simp plain (s.requires, (near s.args.t (is-near c)).0)).0; near = (simp plain (s.requires, (near s.args.t (is-near c)).0)).1 }
+    record { sound = simp plain s.requires; near = simp plain ((near s.args.t (is-near c)).0) }
 
 -- what the row gives, by the label found
 meant_is : (c : After-label_at-label) → let s = (goal.at.After-label_at-label c).Start in
@@ -80,7 +80,7 @@ place-place-requires c =
     let p = s.ranges.period in
     let n = s.ranges.distance in
     let t = s.ranges.t in
-    record { sound = (simp plain (s.requires, ((own c, is-own c), (near s.args.t (is-near d)).1))).0; labelled = (simp plain (s.requires, ((own c, is-own c), (near s.args.t (is-near d)).1))).1 }
+    record { sound = simp plain s.requires; labelled = simp plain (((own c, is-own c), (near s.args.t (is-near d)).1)) }
 
 place_is : (c : After-place-place) → let s = begun (goal.at.After-place-place c).In-At in c.place-place.result ≡ place (row s) (own (goal.at.After-place-place c).In-At) s.args.t
 place_is c =
