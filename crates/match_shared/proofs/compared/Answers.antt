@@ -1,6 +1,6 @@
 -- `match_shared::compared` meets its contract: the label of the instant in the claimed row is compared, and the cursor steps on.
 -- Assumes nothing.
-use borrow.Author.Rules.{rules, sfits_of}
+use borrow.Author.Rules.{sfits_of}
 use mathlib.Core.Path.{◌≡◌, sym, ◌∙◌, ap, subst}
 use mathlib.Core.Bool.{true}
 use lib.IntN.{ℤ, pos, ◌+ℤ◌}
@@ -27,7 +27,9 @@ cursor_label-own-requires c =
     record { sound = (subst (λ (x : Row). (sound x ≡ true) × Standing x s.args.s.cursor) (sym (row_is c)) (s.requires.stands.is-sound, s.requires.standing)).0; standing = (subst (λ (x : Row). (sound x ≡ true) × Standing x s.args.s.cursor) (sym (row_is c)) (s.requires.stands.is-sound, s.requires.standing)).1 }
 
 pub cursor_next-cursor-requires : goal.cursor_next-cursor-requires
-cursor_next-cursor-requires c = record { sound = (cursor_label-own-requires (goal.at.cursor_next-cursor-requires c).After-cursor_label-own).0; standing = (cursor_label-own-requires (goal.at.cursor_next-cursor-requires c).After-cursor_label-own).1 }
+cursor_next-cursor-requires c =
+    let l = (goal.at.cursor_next-cursor-requires c).After-struct_told-2-1 in
+    record { sound = (cursor_label-own-requires l).sound; standing = (cursor_label-own-requires l).standing }
 
 -- the label of the instant in the row, and the cursor of the next
 own-label : (c : After-cursor_label-own) → let s = (goal.at.After-cursor_label-own c).After-cells_of-cells in let r = row_in s.args.pool.now s.args.r in

@@ -1,6 +1,5 @@
 -- `match_shared::still_same` meets its contract: once it is false it stays so.
 -- Assumes nothing.
-use borrow.Author.Rules.{rules}
 use Rattle.match_shared.proofs.still_same.Goals as goal
 
 pub returns-then-same : goal.returns-then-same
