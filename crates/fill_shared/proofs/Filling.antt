@@ -164,11 +164,11 @@ module _ (k : Kind) (a b : Lent) (at period : ℕ) (old : List ℤ) where
 
 -- ---- a loop over operands of a pool; k is the kind that k' is to the machine
 
-abbrev pub lent_as : ℕ → ℕ → ℕ → ℕ → Lent
-lent_as s e p n = record { start = s; end = e; period = to_z w64 p; distance = to_z w64 n }
+abbrev pub lent_as : ℕ → ℕ → ℤ → ℤ → Lent
+lent_as s e p n = record { start = s; end = e; period = p; distance = n }
 
 abbrev pub lent_of : Operand → ℕ → Lent
-lent_of a e = lent_as a.start e (of_z w64 a.period) (of_z w64 a.distance)
+lent_of a e = lent_as a.start e (to_z w64 (of_z w64 a.period)) (to_z w64 (of_z w64 a.distance))
 
 module _ (k k' : Kind) (q : k ≡ k') (a b : Operand) (span : ℤ) (at period : ℕ) (pool : List ℤ) (e : ℕ) (is-end : e ≡ end a) (a-is : row_of (lent_of a e) pool ≡ row_in pool a) where
   -- with two operands
