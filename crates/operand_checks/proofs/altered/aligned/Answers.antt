@@ -3,7 +3,6 @@
 use mathlib.Core.Path.{◌≡◌, sym, ◌∙◌, ap}
 use mathlib.Core.Bool.{Bool, true, false, not}
 use borrow.Author.Tests.{not-true, not-false}
-use borrow.Author.Rules.{rules}
 use lib.IntN.{ℤ}
 use Rattle.integers.specs.Parts.{up}
 use Rattle.integers.proofs.Machine.{plain}
@@ -16,6 +15,7 @@ use Rattle.calendar.specs.Reply.{require}
 use Rattle.granules.specs.Valid.{Valid}
 use Rattle.algebra.proofs.Fine.{Partitioned}
 use Rattle.cursors.proofs.Numbers.{valid}
+use Rattle.alignment.proofs.Read.{aligned-read}
 use Rattle.alignment.proofs.Rising.{limited}
 use Rattle.alter_granules.specs.Given.{altering}
 use Rattle.operand_checks.specs.declared.Extent.{Extent}
@@ -60,7 +60,7 @@ partitions-is c =
     let n = s.ranges.a_distance in
     let q = s.ranges.b_period in
     let m = s.ranges.b_distance in
-    simp plain at c.partitions.ensures
+    c.partitions.ensures ∙ aligned-read partition s.args.a_period s.args.a_distance s.args.b_period s.args.b_distance s.args.a_cells.now s.args.b_cells.now p n q m
 
 pub returns-then-not-partitions : goal.returns-then-not-partitions
 returns-then-not-partitions c =
@@ -90,16 +90,11 @@ emptied-requires c =
     let n = s.ranges.a_distance in
     let q = s.ranges.b_period in
     let m = s.ranges.b_distance in
-    record { sound = (simp plain (
-      s.requires.sound,
-      (s.requires.sound_2, record { limits = s.requires.limits; full = (operands c).full; partition = (operands c).partition; is-span = l.is-span; at-most = l.at-most }),
-    )).0; sound_2 = (simp plain (
-      s.requires.sound,
-      (s.requires.sound_2, record { limits = s.requires.limits; full = (operands c).full; partition = (operands c).partition; is-span = l.is-span; at-most = l.at-most }),
-    )).1; emptiable = (simp plain (
-      s.requires.sound,
-      (s.requires.sound_2, record { limits = s.requires.limits; full = (operands c).full; partition = (operands c).partition; is-span = l.is-span; at-most = l.at-most }),
-    )).2 }
+    record {
+      sound = simp plain s.requires.sound;
+      sound_2 = simp plain s.requires.sound_2;
+      emptiable = simp plain (record { limits = s.requires.limits; full = (operands c).full; partition = (operands c).partition; is-span = l.is-span; at-most = l.at-most });
+    }
 
 emptied-is : (c : After-emptied) → c.emptied.result ≡ empties (goal.at.After-emptied c).Start
 emptied-is c =
@@ -137,7 +132,7 @@ sized-requires c =
     let e' =
     fine-at-least (up by.x) (up by.y) by.z (row-a s) (row-b s) (valids s) s.requires.a_cells_value s.requires.b_cells_value (partition-holds e)
     (up-mono s.requires.limits.x-low) (kept c) in
-    record { limits = (simp plain (s.requires.limits, (s.requires.room, (limited _ _ _ s.requires.sound, (limited _ _ _ s.requires.sound_2, (l.is-span, (l.at-most, (d, e')))))))).0; room = (simp plain (s.requires.limits, (s.requires.room, (limited _ _ _ s.requires.sound, (limited _ _ _ s.requires.sound_2, (l.is-span, (l.at-most, (d, e')))))))).1; limited = (simp plain (s.requires.limits, (s.requires.room, (limited _ _ _ s.requires.sound, (limited _ _ _ s.requires.sound_2, (l.is-span, (l.at-most, (d, e')))))))).2; limited_2 = (simp plain (s.requires.limits, (s.requires.room, (limited _ _ _ s.requires.sound, (limited _ _ _ s.requires.sound_2, (l.is-span, (l.at-most, (d, e')))))))).3; span_value = (simp plain (s.requires.limits, (s.requires.room, (limited _ _ _ s.requires.sound, (limited _ _ _ s.requires.sound_2, (l.is-span, (l.at-most, (d, e')))))))).4; span_bound = (simp plain (s.requires.limits, (s.requires.room, (limited _ _ _ s.requires.sound, (limited _ _ _ s.requires.sound_2, (l.is-span, (l.at-most, (d, e')))))))).5; pos_bound = (simp plain (s.requires.limits, (s.requires.room, (limited _ _ _ s.requires.sound, (limited _ _ _ s.requires.sound_2, (l.is-span, (l.at-most, (d, e')))))))).6; x_bound = (simp plain (s.requires.limits, (s.requires.room, (limited _ _ _ s.requires.sound, (limited _ _ _ s.requires.sound_2, (l.is-span, (l.at-most, (d, e')))))))).7 }
+    record { limits = s.requires.limits; room = simp plain s.requires.room; limited = simp plain (limited _ _ _ s.requires.sound); limited_2 = simp plain (limited _ _ _ s.requires.sound_2); span_value = simp plain l.is-span; span_bound = simp plain l.at-most; pos_bound = simp plain d; x_bound = simp plain e' }
 
 pub returns : goal.returns
 returns c =

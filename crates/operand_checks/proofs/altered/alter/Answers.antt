@@ -2,7 +2,6 @@
 -- Assumes nothing.
 use mathlib.Core.Path.{◌≡◌, sym, ◌∙◌}
 use Prim.Native.Nat.{ℕ}
-use borrow.Author.Rules.{rules}
 use lib.Dec.{leb}
 use Rattle.integers.specs.Parts.{up}
 use Rattle.integers.specs.Capped.{capped_at}
@@ -35,8 +34,7 @@ checks : (s : Start) → let o = altering s.args.by (row-a s) (row-b s) in
     admission o (up s.args.room) ≡ require 8 (leb (span s) (up s.args.room)) (behind_span o (up s.args.room))
 checks s =
     let by = s.args.by in
-    let p = s.requires.a_cells_value in
-    alter-is (row-a s) (row-b s) (up s.args.room) (up by.x) (up by.y) by.z p.0 p.1
+    alter-is (row-a s) (row-b s) (up s.args.room) (up by.x) (up by.y) by.z s.requires.a_cells_value s.requires.b_cells_value
 
 pub span_of-capped-requires : goal.span_of-capped-requires
 span_of-capped-requires c =
@@ -46,9 +44,9 @@ span_of-capped-requires c =
     let n = s.ranges.a_distance in
     let q = s.ranges.b_period in
     let m = s.ranges.b_distance in
-    record { room = (simp plain (s.requires.room, (limited _ _ _ s.requires.sound, limited _ _ _ s.requires.sound_2))).0; limited = (simp plain (s.requires.room, (limited _ _ _ s.requires.sound, limited _ _ _ s.requires.sound_2))).1; limited_2 = (simp plain (s.requires.room, (limited _ _ _ s.requires.sound, limited _ _ _ s.requires.sound_2))).2 }
+    record { room = simp plain s.requires.room; limited = simp plain (limited _ _ _ s.requires.sound); limited_2 = simp plain (limited _ _ _ s.requires.sound_2) }
 
-capped_is : (c : After-span_of-capped) → let s = (goal.at.After-span_of-capped c).Start in c.Span-of.result ≡ capped_at (up s.args.room) (span s)
+capped_is : (c : After-span_of-capped) → let s = (goal.at.After-span_of-capped c).Start in c.span_of-capped.result ≡ capped_at (up s.args.room) (span s)
 capped_is c =
     let s = (goal.at.After-span_of-capped c).Start in
     let r = s.ranges.room in
@@ -56,17 +54,17 @@ capped_is c =
     let n = s.ranges.a_distance in
     let q = s.ranges.b_period in
     let m = s.ranges.b_distance in
-    simp plain at c.Span-of.ensures
+    simp plain at c.span_of-capped.ensures
 
 pub returns-in_default : goal.returns-in_default
 returns-in_default c =
     let t = (goal.at.returns-in_default c).After-span_of-capped in
     let s = (goal.at.After-span_of-capped t).Start in
-    sym (checks s ∙ failed 8 _ (capped-past _ _ (sym (capped_is t) ∙ c.enum_told-1.given.1)))
+    sym (checks s ∙ failed 8 _ (capped-past _ _ (sym (capped_is t) ∙ c.in_default.is)))
 
 within : (c : In-Within) → let s = (goal.at.In-Within c).Start in
-    capped_at (up s.args.room) (span s) ≡ Within c.capped-1.given.0.0
-within c = sym (capped_is (goal.at.In-Within c).After-span_of-capped) ∙ c.capped-1.given.1
+    capped_at (up s.args.room) (span s) ≡ Within c.in-Within.s
+within c = sym (capped_is (goal.at.In-Within c).After-span_of-capped) ∙ c.in-Within.is
 
 pub overflow_cast-s : goal.overflow_cast-s
 overflow_cast-s c = capped_fits c.requires.room _ (within c)
@@ -80,29 +78,15 @@ aligned-requires c =
     let n = s.ranges.a_distance in
     let q = s.ranges.b_period in
     let m = s.ranges.b_distance in
-    let k = s.requires.sound in
-    record { limits = (simp plain (
-      s.requires.limits,
-      (s.requires.room, (k.0, (k.1.0, (k.1.1.0, (k.1.1.1, capped-spanned (row-a s) (row-b s) s.requires.room (within c)))))),
-    )).0; room = (simp plain (
-      s.requires.limits,
-      (s.requires.room, (k.0, (k.1.0, (k.1.1.0, (k.1.1.1, capped-spanned (row-a s) (row-b s) s.requires.room (within c)))))),
-    )).1; sound = (simp plain (
-      s.requires.limits,
-      (s.requires.room, (k.0, (k.1.0, (k.1.1.0, (k.1.1.1, capped-spanned (row-a s) (row-b s) s.requires.room (within c)))))),
-    )).2; sound_2 = (simp plain (
-      s.requires.limits,
-      (s.requires.room, (k.0, (k.1.0, (k.1.1.0, (k.1.1.1, capped-spanned (row-a s) (row-b s) s.requires.room (within c)))))),
-    )).3; a_cells_value = (simp plain (
-      s.requires.limits,
-      (s.requires.room, (k.0, (k.1.0, (k.1.1.0, (k.1.1.1, capped-spanned (row-a s) (row-b s) s.requires.room (within c)))))),
-    )).4; b_cells_value = (simp plain (
-      s.requires.limits,
-      (s.requires.room, (k.0, (k.1.0, (k.1.1.0, (k.1.1.1, capped-spanned (row-a s) (row-b s) s.requires.room (within c)))))),
-    )).5; spanned = (simp plain (
-      s.requires.limits,
-      (s.requires.room, (k.0, (k.1.0, (k.1.1.0, (k.1.1.1, capped-spanned (row-a s) (row-b s) s.requires.room (within c)))))),
-    )).6 }
+    record {
+      limits = s.requires.limits;
+      room = simp plain s.requires.room;
+      sound = simp plain s.requires.sound;
+      sound_2 = simp plain s.requires.sound_2;
+      a_cells_value = simp plain s.requires.a_cells_value;
+      b_cells_value = simp plain s.requires.b_cells_value;
+      spanned = simp plain (capped-spanned (row-a s) (row-b s) s.requires.room (within c));
+    }
 
 pub returns : goal.returns
 returns c =

@@ -1,9 +1,8 @@
 -- `operand_checks::altered::sized` meets its contract: the working period is tested once no number on the way can wrap.
 -- Assumes nothing.
 use mathlib.Core.Path.{◌≡◌, sym, ◌∙◌, ap}
-use Prim.Native.Nat.{ℕ, ◌≤◌, ◌<◌, ◌^◌}
+use Prim.Native.Nat.{ℕ, ◌<◌, ◌^◌}
 use native.Mathlib.Omega.{arith}
-use borrow.Author.Rules.{rules}
 use lib.IntN.{ℤ, pos}
 use lib.Signed.{◌≤ℤ◌}
 use mir.Facts.{to_z-of_z}
@@ -126,16 +125,16 @@ period-is c =
 pub returns-in_default : goal.returns-in_default
 returns-in_default c =
     let t = (goal.at.returns-in_default c).After-alter_period-working in
-    sym (failed 8 _ (capped-past _ _ (sym (period-is t) ∙ c.enum_told-1.given.1)))
+    sym (failed 8 _ (capped-past _ _ (sym (period-is t) ∙ c.in_default.is)))
 
 within : (c : In-Within) → let s = (goal.at.In-Within c).Start in
-    capped_at (up s.args.room) (working s).period ≡ Within c.working-1.given.0.0
-within c = sym (period-is (goal.at.In-Within c).After-alter_period-working) ∙ c.working-1.given.1
+    capped_at (up s.args.room) (working s).period ≡ Within c.in-Within.period
+within c = sym (period-is (goal.at.In-Within c).After-alter_period-working) ∙ c.in-Within.is
 
 pub alter_distance-distance-requires : goal.alter_distance-distance-requires
 alter_distance-distance-requires c =
     let n = (goal.at.alter_distance-distance-requires c).After-altering_of-n in
-    record { stored = (((ready n).0, ((ready n).1, n.altering_of-n.ensures.bound))).0; pos_bound = (((ready n).0, ((ready n).1, n.altering_of-n.ensures.bound))).1; coarse_le_most_coarse = (((ready n).0, ((ready n).1, n.altering_of-n.ensures.bound))).2 }
+    record { stored = (ready n).0; pos_bound = (ready n).1; coarse_le_most_coarse = n.altering_of-n.ensures.bound }
 
 distance_is : (c : After-alter_distance-distance) → let s = (goal.at.After-alter_distance-distance c).Start in
     c.alter_distance-distance.result ≡ alter_distance (fine-row s) (coarse s) (fine s)
@@ -149,11 +148,10 @@ distance-below c =
     let s = (goal.at.After-altering_of-n n).Start in
     let k = (goal.at.After-alter_distance-distance c).In-Within in
     let r = stored s.requires.limited in
-    let d = s.requires.pos_bound in
     let h = capped-half s.requires.room _ (within k) in
     let e = (within-is (within k)).0 in
     let w : (working s).period ≡ alter_period (fine-row s) (fine s) = ap (λ (a : Size.Turn). a.period) (working-is s) in
-    let l = distance-short (fine-row s) (coarse s) (fine s) (up-mono d.0) r.positive r.distance-at-most (up-mono d.1) in
+    let l = distance-short (fine-row s) (coarse s) (fine s) (up-mono s.requires.pos_bound) r.positive r.distance-at-most (up-mono s.requires.x_bound) in
     omega (arith, distance_is c, h, e, w, l)
 
 pub overflow_cast-result : goal.overflow_cast-result

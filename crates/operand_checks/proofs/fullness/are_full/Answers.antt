@@ -3,7 +3,6 @@
 use mathlib.Core.Path.{◌≡◌, sym, ◌∙◌, ap, subst}
 use mathlib.Core.Bool.{Bool, ◌&&◌}
 use mathlib.Core.List.{List}
-use borrow.Author.Rules.{rules}
 use lib.IntN.{ℤ}
 use Rattle.calendar.specs.Meaning.{Row}
 use Rattle.calendar.specs.Granules.{full}
@@ -30,35 +29,35 @@ Known s pool k = CountedFirst (operands k) pool s.args.a s.args.b
 
 pub returns-in-Bottom : goal.returns-in-Bottom
 unfolding full_operands
-returns-in-Bottom c pool h = ap (answered (goal.at.returns-in-Bottom c).Start pool) (sym c.enum_told-1.given.1)
+returns-in-Bottom c pool h = ap (answered (goal.at.returns-in-Bottom c).Start pool) (sym c.in-Bottom.is)
 
 pub returns-in-Group : goal.returns-in-Group
 unfolding full_operands
 returns-in-Group c pool h =
     let s = (goal.at.returns-in-Group c).Start in
-    let e = c.enum_told-in-Group-1.given.1 in
+    let e = c.in-Group.is in
     c.is_full.ensures pool (subst (Known s pool) e h).0 ∙ ap (answered s pool) (sym e)
 
 pub returns-in-Shift : goal.returns-in-Shift
 unfolding full_operands
-returns-in-Shift c pool h = ap (answered (goal.at.returns-in-Shift c).Start pool) (sym c.enum_told-in-Shift-1.given.1)
+returns-in-Shift c pool h = ap (answered (goal.at.returns-in-Shift c).Start pool) (sym c.in-Shift.is)
 
 pub returns-in-Renumber : goal.returns-in-Renumber
 unfolding full_operands
-returns-in-Renumber c pool h = ap (answered (goal.at.returns-in-Renumber c).Start pool) (sym c.enum_told-in-Renumber-1.given.1)
+returns-in-Renumber c pool h = ap (answered (goal.at.returns-in-Renumber c).Start pool) (sym c.in-Renumber.is)
 
 -- alter: the first operand, and where it is full the second
 first-is : (c : After-is_full-in-Alter) (pool : List ℤ) → let s = (goal.at.After-is_full-in-Alter c).Start in Known s pool s.args.kind → c.is_full-in-Alter.result ≡ full (row-a s pool)
 first-is c pool h =
     let s = (goal.at.After-is_full-in-Alter c).Start in
-    c.is_full-in-Alter.ensures pool (subst (Known s pool) c.enum_told-in-Alter-1.given.1 h).0
+    c.is_full-in-Alter.ensures pool (subst (Known s pool) c.in-Alter.is h).0
 
 pub returns-then-is_full : goal.returns-then-is_full
 unfolding full_operands
 returns-then-is_full c pool h =
     let f = (goal.at.returns-then-is_full c).After-is_full-in-Alter in
     let s = (goal.at.After-is_full-in-Alter f).Start in
-    let e = f.enum_told-in-Alter-1.given.1 in
+    let e = f.in-Alter.is in
     c.is_full-then-is_full.ensures pool (subst (Known s pool) e h).1
     ∙ ap (λ (x : Bool). x && full (row-b s pool)) (sym (sym (first-is f pool h) ∙ c.if-is_full.true))
     ∙ ap (answered s pool) (sym e)
@@ -69,23 +68,23 @@ returns-else-is_full c pool h =
     let f = (goal.at.returns-else-is_full c).After-is_full-in-Alter in
     let s = (goal.at.After-is_full-in-Alter f).Start in
     ap (λ (x : Bool). x && full (row-b s pool)) (sym (sym (first-is f pool h) ∙ c.if-is_full.false))
-    ∙ ap (answered s pool) (sym f.enum_told-in-Alter-1.given.1)
+    ∙ ap (answered s pool) (sym f.in-Alter.is)
 
 pub returns-in-Combine : goal.returns-in-Combine
 unfolding full_operands
-returns-in-Combine c pool h = ap (answered (goal.at.returns-in-Combine c).Start pool) (sym c.enum_told-in-Combine-1.given.1)
+returns-in-Combine c pool h = ap (answered (goal.at.returns-in-Combine c).Start pool) (sym c.in-Combine.is)
 
 pub returns-in-Select : goal.returns-in-Select
 unfolding full_operands
-returns-in-Select c pool h = ap (answered (goal.at.returns-in-Select c).Start pool) (sym c.enum_told-in-Select-1.given.1)
+returns-in-Select c pool h = ap (answered (goal.at.returns-in-Select c).Start pool) (sym c.in-Select.is)
 
 pub returns-in-Anchor : goal.returns-in-Anchor
 unfolding full_operands
 returns-in-Anchor c pool h =
     let s = (goal.at.returns-in-Anchor c).Start in
-    let e = c.enum_told-in-Anchor-1.given.1 in
+    let e = c.in-Anchor.is in
     c.is_full-in-Anchor.ensures pool (subst (Known s pool) e h).0 ∙ ap (answered s pool) (sym e)
 
 pub returns-in-ByLabels : goal.returns-in-ByLabels
 unfolding full_operands
-returns-in-ByLabels c pool h = ap (answered (goal.at.returns-in-ByLabels c).Start pool) (sym c.enum_told-in-ByLabels-1.given.1)
+returns-in-ByLabels c pool h = ap (answered (goal.at.returns-in-ByLabels c).Start pool) (sym c.in-ByLabels.is)

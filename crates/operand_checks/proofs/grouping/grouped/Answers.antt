@@ -4,7 +4,6 @@ use mathlib.Core.Path.{◌≡◌, sym, ◌∙◌, ap, ap₂}
 use Prim.Native.Nat.{ℕ, ◌/◌, ◌≤◌, ◌<◌, ◌^◌}
 use native.Mathlib.Nat.{div-le_self}
 use native.Mathlib.Omega.{arith}
-use borrow.Author.Rules.{rules}
 use lib.IntN.{pos}
 use Rattle.integers.specs.Parts.{up}
 use Rattle.integers.specs.Gcd.{gcd}
@@ -69,11 +68,11 @@ pub returns-in_default : goal.returns-in_default
 returns-in_default c =
     let t = (goal.at.returns-in_default c).After-group_period-working in
     let s = (goal.at.After-group_period-working t).Start in
-    sym (grouped-fails (up s.args.x) (row s) (up s.args.room) (capped-past _ _ (sym (capped_is t) ∙ c.enum_told-1.given.1)))
+    sym (grouped-fails (up s.args.x) (row s) (up s.args.room) (capped-past _ _ (sym (capped_is t) ∙ c.in_default.is)))
 
 within : (c : In-Within) → let s = (goal.at.In-Within c).Start in
-    capped_at (up s.args.room) (period_unary (group (up s.args.x)) (row s)) ≡ Within c.working-1.given.0.0
-within c = sym (capped_is (goal.at.In-Within c).After-group_period-working) ∙ c.working-1.given.1
+    capped_at (up s.args.room) (period_unary (group (up s.args.x)) (row s)) ≡ Within c.in-Within.p
+within c = sym (capped_is (goal.at.In-Within c).After-group_period-working) ∙ c.in-Within.is
 
 pub overflow_cast-result : goal.overflow_cast-result
 overflow_cast-result c = capped_fits c.requires.room _ (within (goal.at.overflow_cast-result c).In-Within)

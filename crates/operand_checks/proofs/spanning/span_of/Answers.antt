@@ -2,7 +2,6 @@
 -- Assumes nothing.
 use mathlib.Core.Path.{◌≡◌, ◌∙◌, ap, ap₂}
 use Prim.Native.Nat.{ℕ}
-use borrow.Author.Rules.{rules}
 use Rattle.integers.specs.Parts.{up}
 use Rattle.integers.specs.Capped.{capped_at}
 use Rattle.integers.proofs.Machine.{plain}

@@ -3,7 +3,6 @@
 use mathlib.Core.Path.{◌≡◌, sym, ◌∙◌, ap}
 use mathlib.Core.Bool.{Bool}
 use native.Mathlib.Omega.{arith}
-use borrow.Author.Rules.{rules}
 use Rattle.integers.specs.Parts.{up}
 use Rattle.integers.specs.Capped.{capped_at}
 use Rattle.integers.specs.declared.Capped.TheVariants.{Within}
@@ -30,7 +29,7 @@ span_of-capped-requires s =
     let n = s.ranges.a_distance in
     let q = s.ranges.b_period in
     let m = s.ranges.b_distance in
-    record { room = (simp plain (s.requires.room, (limited _ _ _ s.requires.sound, limited _ _ _ s.requires.sound_2))).0; limited = (simp plain (s.requires.room, (limited _ _ _ s.requires.sound, limited _ _ _ s.requires.sound_2))).1; limited_2 = (simp plain (s.requires.room, (limited _ _ _ s.requires.sound, limited _ _ _ s.requires.sound_2))).2 }
+    record { room = simp plain s.requires.room; limited = simp plain (limited _ _ _ s.requires.sound); limited_2 = simp plain (limited _ _ _ s.requires.sound_2) }
 
 -- the operands
 abbrev row-a : Start → Row
@@ -42,7 +41,7 @@ row-b s = given s.args.b_period s.args.b_distance s.args.b_cells.now
 abbrev lying : Start → Bool
 lying s = aligned_as (alignment_of s.args.k) (row-a s) (row-b s)
 
-capped_is : (c : After-span_of-capped) → let s = (goal.at.After-span_of-capped c).Start in c.Span-of.result ≡ capped_at (up s.args.room) (span_of (turn (row-a s)) (turn (row-b s)))
+capped_is : (c : After-span_of-capped) → let s = (goal.at.After-span_of-capped c).Start in c.span_of-capped.result ≡ capped_at (up s.args.room) (span_of (turn (row-a s)) (turn (row-b s)))
 capped_is c =
     let s = (goal.at.After-span_of-capped c).Start in
     let r = s.ranges.room in
@@ -50,16 +49,16 @@ capped_is c =
     let n = s.ranges.a_distance in
     let q = s.ranges.b_period in
     let m = s.ranges.b_distance in
-    simp plain at c.Span-of.ensures
+    simp plain at c.span_of-capped.ensures
 
 pub returns-in_default : goal.returns-in_default
 returns-in_default c =
     let t = (goal.at.returns-in_default c).After-span_of-capped in
-    sym (failed 8 _ (capped-past _ _ (sym (capped_is t) ∙ c.enum_told-1.given.1)))
+    sym (failed 8 _ (capped-past _ _ (sym (capped_is t) ∙ c.in_default.is)))
 
 within : (c : In-Within) → let s = (goal.at.In-Within c).Start in
-    capped_at (up s.args.room) (span_of (turn (row-a s)) (turn (row-b s))) ≡ Within c.capped-1.given.0.0
-within c = sym (capped_is (goal.at.In-Within c).After-span_of-capped) ∙ c.capped-1.given.1
+    capped_at (up s.args.room) (span_of (turn (row-a s)) (turn (row-b s))) ≡ Within c.in-Within.s
+within c = sym (capped_is (goal.at.In-Within c).After-span_of-capped) ∙ c.in-Within.is
 
 pub overflow_cast-span : goal.overflow_cast-span
 overflow_cast-span c = capped_fits c.requires.room _ (within c)
@@ -72,7 +71,7 @@ aligned-requires c =
     let n = s.ranges.a_distance in
     let q = s.ranges.b_period in
     let m = s.ranges.b_distance in
-    record { sound = (simp plain (s.requires.sound, (s.requires.sound_2, capped-spanned (row-a s) (row-b s) s.requires.room (within c)))).0; sound_2 = (simp plain (s.requires.sound, (s.requires.sound_2, capped-spanned (row-a s) (row-b s) s.requires.room (within c)))).1; spanned = (simp plain (s.requires.sound, (s.requires.sound_2, capped-spanned (row-a s) (row-b s) s.requires.room (within c)))).2 }
+    record { sound = simp plain s.requires.sound; sound_2 = simp plain s.requires.sound_2; spanned = simp plain (capped-spanned (row-a s) (row-b s) s.requires.room (within c)) }
 
 aligned-is : (c : After-aligned) → c.aligned.result ≡ lying (goal.at.After-aligned c).Start
 aligned-is c =
@@ -91,7 +90,7 @@ over_span-requires c =
     let p = s.ranges.a_period in
     let n = s.ranges.a_distance in
     let l = (capped-spanned (row-a s) (row-b s) s.requires.room (within k)).at-most in
-    record { limited = (simp plain (limited _ _ _ s.requires.sound, (simp ints (omega arith), l))).0; pos_bound = (simp plain (limited _ _ _ s.requires.sound, (simp ints (omega arith), l))).1 }
+    record { limited = simp plain (limited _ _ _ s.requires.sound); pos_bound = simp plain (simp ints (omega arith), l) }
 
 pub returns-then-aligned : goal.returns-then-aligned
 returns-then-aligned c =
@@ -100,7 +99,7 @@ returns-then-aligned c =
     let h = capped-half s.requires.room _ (within k) in
     let p = s.ranges.a_period in
     let n = s.ranges.a_distance in
-    let e : c.over_span.result ≡ over_span (turn (row-a s)) k.capped-1.given.0.0 = simp plain at c.over_span.ensures in
+    let e : c.over_span.result ≡ over_span (turn (row-a s)) k.in-Within.s = simp plain at c.over_span.ensures in
     ap answer (e ∙ ap (over_span (turn (row-a s))) (within-is (within k)).0)
     ∙ sym (passed 8 _ (capped-passes _ _ (within k)) ∙ passed 9 _ (sym (aligned-is (goal.at.returns-then-aligned c).After-aligned) ∙ c.if-aligned.true))
 
