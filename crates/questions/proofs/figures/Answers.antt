@@ -1,6 +1,6 @@
 -- `questions::figures` meets its contract: 13, or the figures of its three counts, none of which passes the limit.
 use borrow.Author.Tests.{not-false}
-use borrow.Author.Rules.{rules, sfits_of}
+use borrow.Author.Rules.{sfits_of}
 use mathlib.Core.Path.{◌≡◌, refl, sym, ◌∙◌, ap}
 use mathlib.Core.Bool.{true}
 use Prim.Native.Nat.{ℕ, ◌≤◌}

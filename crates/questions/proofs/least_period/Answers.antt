@@ -1,19 +1,18 @@
 -- `questions::least_period` meets its contract: 13, or what the search came to.
 use borrow.Author.Tests.{not-false}
-use borrow.Author.Rules.{rules, sfits_of}
-use mathlib.Core.Path.{◌≡◌, sym, ◌∙◌, ap, ap₂}
+use borrow.Author.Rules.{sfits_of}
+use mathlib.Core.Path.{◌≡◌, sym, ◌∙◌, ap₂}
 use mathlib.Core.Bool.{true}
 use Prim.Native.Nat.{ℕ}
 use lib.IntN.{ℤ, pos}
 use mir.Facts.{to_z-of_z}
+use mir.Syntax.{w64}
 use Rattle.integers.proofs.Machine.{plain}
 use Rattle.calendar.specs.Meaning.{Row}
-use Rattle.calendar.specs.Granules.{granules}
 use Rattle.calendar.specs.Least.{least}
 use Rattle.calendar.specs.Tries.{tries}
 use Rattle.calendar.specs.Sound.{sound}
 use Rattle.calendar.specs.Questions.{given}
-use Rattle.calendar.specs.Reply.{Reply}
 use Rattle.calendar.specs.Reply.Reply.{answer}
 use Rattle.granules.proofs.Tests.{not_iff}
 use Rattle.granules.proofs.Replies.{passed, failed}
@@ -48,13 +47,11 @@ pub least_period-shortest-requires : goal.least_period-shortest-requires
 least_period-shortest-requires c =
     let s = (goal.at.least_period-shortest-requires c).Start in
     let p = s.ranges.period in
-    let n = s.ranges.distance in record { cells_value = ((
-      simp plain (is-sound (goal.at.least_period-shortest-requires c).Else-not-sound),
-      to_z-of_z {w = w64} (sfits_of c.granules-granules.type_inv) ∙ c.granules-granules.ensures,
-    )).0; granules_value = ((
-      simp plain (is-sound (goal.at.least_period-shortest-requires c).Else-not-sound),
-      to_z-of_z {w = w64} (sfits_of c.granules-granules.type_inv) ∙ c.granules-granules.ensures,
-    )).1 }
+    let n = s.ranges.distance in
+    record {
+      cells_value = simp plain (is-sound (goal.at.least_period-shortest-requires c).Else-not-sound);
+      granules_value = to_z-of_z {w = w64} (sfits_of c.granules-granules.type_inv) ∙ c.granules-granules.ensures;
+    }
 
 -- what the search came to, of the row as it was handed in
 found : (c : After-least_period-shortest) → let r = row (goal.at.After-least_period-shortest c).Start in

@@ -1,6 +1,6 @@
 -- `questions::checked::granule_length` meets its contract: the length of a granule is the place of its last instant, which is less than a period after t.
 -- Assumes nothing.
-use borrow.Author.Rules.{rules, sfits_of}
+use borrow.Author.Rules.{sfits_of}
 use mathlib.Core.Path.{◌≡◌, sym, ◌∙◌, ap}
 use mathlib.Core.Option.{some}
 use Prim.Native.Nat.{◌^◌}

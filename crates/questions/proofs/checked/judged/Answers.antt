@@ -1,5 +1,5 @@
 -- `questions::checked::judged` meets its contract: 15, or what `floats::may_be_late` says of the granule's length.
-use borrow.Author.Rules.{rules, sfits_of}
+use borrow.Author.Rules.{rules}
 use mathlib.Core.Path.{◌≡◌, sym, ◌∙◌, ap, ap₂}
 use mathlib.Core.Bool.{true}
 use mathlib.Core.Option.{some}
@@ -45,17 +45,20 @@ found-is c =
 
 pub returns-in_default : goal.returns-in_default
 unfolding has
-returns-in_default c = sym (failed 15 _ (ap is_some (found-is (goal.at.returns-in_default c).After-instant_of-at ∙ ap found c.enum_told-1.given.1)))
+returns-in_default c = sym (failed 15 _ (ap is_some (found-is (goal.at.returns-in_default c).After-instant_of-at ∙ ap found c.in_default.is)))
+
+instant-fits : (c : In-At) → SFits w64 c.in-At.t
+instant-fits c = search rules
 
 -- the instant found
 abbrev begun : In-At → Start
 begun c = (goal.at.In-At c).Start
 
 abbrev instant : In-At → ℤ
-instant c = c.at-1.given.0.0
+instant c = c.in-At.t
 
 is_found : (c : In-At) → instant_of (row (begun c)) (begun c).args.z ≡ some (instant c)
-is_found c = found-is (goal.at.In-At c).After-instant_of-at ∙ ap found c.at-1.given.1
+is_found c = found-is (goal.at.In-At c).After-instant_of-at ∙ ap found c.in-At.is
 
 labelled : (c : In-At) → meant (row (begun c)) (instant c) ≡ some (begun c).args.z
 labelled c = let s = begun c in instant_of-labelled (row s) (rules_own s) s.args.z (instant c) (is_found c)
@@ -65,15 +68,15 @@ unfolding has
 is-label c = ap is_some (is_found c)
 
 near : (c : In-At) → Within (2 ^ 59) (instant c) × Within (2 ^ 58) (instant c)
-near c = c.instant_of-at.ensures.within_2 (instant c) (ap found c.at-1.given.1) ∴ simp ints (omega arith)
+near c = c.instant_of-at.ensures.within_2 (instant c) (ap found c.in-At.is) ∴ simp ints (omega arith)
 
 pub granule_length-length-requires : goal.granule_length-length-requires
 granule_length-length-requires c =
     let s = begun c in
     let p = s.ranges.period in
     let n = s.ranges.distance in
-    let t : SFits w64 (instant c) = sfits_of c.known_told-1.given.0.1 in
-    record { sound = (simp plain (s.requires.sound, (((s.args.z, labelled c), (near c).0), (near c).1))).0; labelled = (simp plain (s.requires.sound, (((s.args.z, labelled c), (near c).0), (near c).1))).1; within = (simp plain (s.requires.sound, (((s.args.z, labelled c), (near c).0), (near c).1))).2 }
+    let t = instant-fits c in
+    record { sound = simp plain s.requires.sound; labelled = simp plain ((s.args.z, labelled c), (near c).0); within = simp plain ((near c).1) }
 
 late : (s : Start) → (s.args.d ≡ pos (up s.args.d)) × (up s.args.d ≤ late_limit)
 late s = lateness s.args.d s.requires.d_value
@@ -89,7 +92,7 @@ length-is c =
     let s = begun (goal.at.After-granule_length-length c).In-At in
     let p = s.ranges.period in
     let n = s.ranges.distance in
-    let t : SFits w64 (instant (goal.at.After-granule_length-length c).In-At) = sfits_of c.known_told-1.given.0.1 in
+    let t = instant-fits (goal.at.After-granule_length-length c).In-At in
     (simp plain at c.granule_length-length.ensures) s.args.z (labelled (goal.at.After-granule_length-length c).In-At)
 
 late_is : (s : Start) → nat_abs (to_z w64 (of_z w64 s.args.d)) ≡ up s.args.d

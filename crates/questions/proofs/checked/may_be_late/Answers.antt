@@ -1,6 +1,5 @@
 -- `questions::checked::may_be_late` meets its contract: 14, 18, and what `judged` says.
 use borrow.Author.Tests.{not-false}
-use borrow.Author.Rules.{rules}
 use mathlib.Core.Path.{◌≡◌, sym, ◌∙◌, ap, ap₂}
 use mathlib.Core.Bool.{Bool, true, ◌&&◌}
 use lib.IntN.{pos}
@@ -73,7 +72,7 @@ judged-requires c =
     let n = s.ranges.distance in
     let z = s.ranges.z in
     let d = s.ranges.d in
-    record { sound = (simp plain (s.requires, ((in-range s.args.z).0 (is-ranged e), (is-late l, is-allowed c)))).0; within = (simp plain (s.requires, ((in-range s.args.z).0 (is-ranged e), (is-late l, is-allowed c)))).1; d_value = (simp plain (s.requires, ((in-range s.args.z).0 (is-ranged e), (is-late l, is-allowed c)))).2; allowance_value = (simp plain (s.requires, ((in-range s.args.z).0 (is-ranged e), (is-late l, is-allowed c)))).3 }
+    record { sound = simp plain s.requires; within = simp plain ((in-range s.args.z).0 (is-ranged e)); d_value = simp plain (is-late l); allowance_value = is-allowed c }
 
 pub returns : goal.returns
 unfolding may_be_late

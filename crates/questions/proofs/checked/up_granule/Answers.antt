@@ -1,6 +1,6 @@
 -- `questions::checked::up_granule` meets its contract: 14, 15, then what `containment::holder` says of an instant of the granule.
 use borrow.Author.Tests.{not-false}
-use borrow.Author.Rules.{rules, sfits_of}
+use borrow.Author.Rules.{rules}
 use mathlib.Core.Path.{◌≡◌, sym, ◌∙◌, ap}
 use mathlib.Core.Bool.{true}
 use mathlib.Core.Option.{some}
@@ -26,7 +26,7 @@ use Rattle.cursors.specs.Found.{found, Within}
 use Rattle.cursors.proofs.Bounds.{in-range}
 use Rattle.cursors.proofs.Numbers.{valid}
 use Rattle.questions.proofs.checked.up_granule.Goals as goal
-use Rattle.questions.proofs.checked.up_granule.Goals.{After-holder-label, After-in_range, After-instant_of-at, Else-not-in_range, In-At, In-At-label-2, Start}
+use Rattle.questions.proofs.checked.up_granule.Goals.{After-holder-label, After-in_range, After-instant_of-at, Else-not-in_range, In-At, Start}
 
 abbrev g-row : Start → Row
 g-row s = given s.args.g_period s.args.g_distance s.args.g_cells.now
@@ -53,7 +53,7 @@ is-ranged c = sym (ranged (goal.at.Else-not-in_range c).After-in_range) ∙ not-
 left : (c : Else-not-in_range) → let s = begun c in
     up_from_granule (g-row s) (h-row s) s.args.z ≡ require 15 (has (g-row s) s.args.z) (answer (holder (g-row s) (h-row s) s.args.z))
 unfolding up_from_granule
-left c = passed 13 _ (begun c).requires.0 ∙ passed 13 _ (begun c).requires.1 ∙ passed 14 _ (is-ranged c)
+left c = passed 13 _ (begun c).requires.sound ∙ passed 13 _ (begun c).requires.sound_2 ∙ passed 14 _ (is-ranged c)
 
 -- ---- 15
 pub instant_of-at-requires : goal.instant_of-at-requires
@@ -76,17 +76,20 @@ pub returns-in_default : goal.returns-in_default
 unfolding has
 returns-in_default c =
     let l = (goal.at.returns-in_default c).After-instant_of-at in
-    sym (left (goal.at.After-instant_of-at l).Else-not-in_range ∙ failed 15 _ (ap is_some (found-is l ∙ ap found c.enum_told-1.given.1)))
+    sym (left (goal.at.After-instant_of-at l).Else-not-in_range ∙ failed 15 _ (ap is_some (found-is l ∙ ap found c.in_default.is)))
 
 -- ---- the answer
+instant-fits : (c : In-At) → SFits w64 c.in-At.t
+instant-fits c = search rules
+
 abbrev checked : In-At → Else-not-in_range
 checked c = (goal.at.In-At c).Else-not-in_range
 
 abbrev instant : In-At → ℤ
-instant c = c.at-1.given.0.0
+instant c = c.in-At.t
 
 is_found : (c : In-At) → let s = begun (checked c) in instant_of (g-row s) s.args.z ≡ some (instant c)
-is_found c = found-is (goal.at.In-At c).After-instant_of-at ∙ ap found c.at-1.given.1
+is_found c = found-is (goal.at.In-At c).After-instant_of-at ∙ ap found c.in-At.is
 
 labelled : (c : In-At) → let s = begun (checked c) in meant (g-row s) (instant c) ≡ some s.args.z
 labelled c =
@@ -99,7 +102,7 @@ unfolding has
 is-label c = ap is_some (is_found c)
 
 near : (c : In-At) → Within (2 ^ 59) (instant c)
-near c = c.instant_of-at.ensures.within_2 (instant c) (ap found c.at-1.given.1) ∴ simp ints (omega arith)
+near c = c.instant_of-at.ensures.within_2 (instant c) (ap found c.in-At.is) ∴ simp ints (omega arith)
 
 pub holder-label-requires : goal.holder-label-requires
 holder-label-requires c =
@@ -108,8 +111,8 @@ holder-label-requires c =
     let n = s.ranges.g_distance in
     let q = s.ranges.h_period in
     let m = s.ranges.h_distance in
-    let t : SFits w64 (instant c) = sfits_of c.known_told-1.given.0.1 in
-    record { sound = (simp plain (s.requires.sound, (s.requires.sound_2, ((s.args.z, labelled c), near c)))).0; sound_2 = (simp plain (s.requires.sound, (s.requires.sound_2, ((s.args.z, labelled c), near c)))).1; labelled = (simp plain (s.requires.sound, (s.requires.sound_2, ((s.args.z, labelled c), near c)))).2 }
+    let t = instant-fits c in
+    record { sound = simp plain s.requires.sound; sound_2 = simp plain s.requires.sound_2; labelled = simp plain ((s.args.z, labelled c), near c) }
 
 replied : (c : After-holder-label) → let s = begun (checked (goal.at.After-holder-label c).In-At) in up_from_granule (g-row s) (h-row s) s.args.z ≡ answer (found c.holder-label.result)
 replied c =
@@ -119,13 +122,13 @@ replied c =
     let n = s.ranges.g_distance in
     let q = s.ranges.h_period in
     let m = s.ranges.h_distance in
-    let t : SFits w64 (instant k) = sfits_of k.known_told-1.given.0.1 in
+    let t = instant-fits k in
     left (checked k) ∙ passed 15 _ (is-label k) ∙ ap answer (sym ((simp plain at c.holder-label.ensures) s.args.z (labelled k)))
 
 pub returns-in-At-label : goal.returns-in-At-label
 returns-in-At-label c =
-    let k = (goal.at.returns-in-At-label c).In-At-label-2 in
-    ap answer (ap some (to_z-of_z (sfits_of c.known_told-in-At-label-1.given.0.1)) ∙ sym (ap found k.label-1.given.1)) ∙ sym (replied (goal.at.In-At-label-2 k).After-holder-label)
+    let f : SFits w64 c.in-At-label.j = search rules in
+    ap answer (ap some (to_z-of_z f) ∙ sym (ap found c.in-At-label.is)) ∙ sym (replied (goal.at.returns-in-At-label c).After-holder-label)
 
 pub returns-in-Nothing : goal.returns-in-Nothing
-returns-in-Nothing c = ap answer (sym (ap found c.enum_told-in-Nothing-1.given.1)) ∙ sym (replied (goal.at.returns-in-Nothing c).After-holder-label)
+returns-in-Nothing c = ap answer (sym (ap found c.in-Nothing.is)) ∙ sym (replied (goal.at.returns-in-Nothing c).After-holder-label)

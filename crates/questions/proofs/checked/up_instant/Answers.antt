@@ -6,8 +6,10 @@ use Prim.Native.Nat.{◌^◌}
 use native.Mathlib.Omega.{arith}
 use lib.IntN.{ℤ}
 use borrow.Author.Tests.{not-false}
-use borrow.Author.Rules.{rules, sfits_of}
+use borrow.Author.Rules.{rules}
 use mir.Facts.{to_z-of_z}
+use mir.Syntax.{w64}
+use mir.Val.{SFits}
 use Rattle.integers.proofs.Linear.{ints, ◌∴◌}
 use Rattle.integers.proofs.Machine.{plain}
 use Rattle.calendar.specs.Meaning.{Row, meant}
@@ -65,13 +67,16 @@ replied c = passed 13 _ c.requires ∙ passed 14 _ (is-near c)
 abbrev begun : In-At → Start
 begun c = (goal.at.In-At c).Start
 
+own-fits : (c : In-At) → SFits w64 c.in-At.j
+own-fits c = search rules
+
 -- the instant's label
 abbrev own : In-At → ℤ
-own c = c.label-1.given.0.0
+own c = c.in-At.j
 
 is-own : (c : In-At) → let s = begun c in
     meant (row s) s.args.t ≡ some (own c)
-is-own c = meant_is (goal.at.In-At c).After-label_at-label ∙ ap found c.label-1.given.1
+is-own c = meant_is (goal.at.In-At c).After-label_at-label ∙ ap found c.in-At.is
 
 pub place-place-requires : goal.place-place-requires
 place-place-requires c =
@@ -95,11 +100,11 @@ returns-in-At c =
     let k = (goal.at.returns-in-At c).In-At in
     let s = begun k in
     let at : ℤ → Placed = λ j. record { label = j; place = c.place-place.result } in
-    ap (λ (j : ℤ). answer (some (at j))) (to_z-of_z (sfits_of k.known_told-1.given.0.1))
+    ap (λ (j : ℤ). answer (some (at j))) (to_z-of_z (own-fits k))
     ∙ sym (replied (goal.at.In-At k).Else-not-in_range ∙ ap answer ((placed-some (row s) s.args.t (at (own k))).1 (is-own k, place_is c)))
 
 pub returns-in-Nothing : goal.returns-in-Nothing
 returns-in-Nothing c =
     let d = (goal.at.returns-in-Nothing c).After-label_at-label in
-    let e = meant_is d ∙ ap found c.enum_told-1.given.1 in
+    let e = meant_is d ∙ ap found c.in-Nothing.is in
     sym (replied (goal.at.After-label_at-label d).Else-not-in_range ∙ ap answer ((placed-none _ _).1 e))

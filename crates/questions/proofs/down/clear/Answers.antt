@@ -1,18 +1,12 @@
 -- `questions::down::clear` meets its contract. The loop's invariant: the numbers before i are zero.
 -- Assumes nothing.
-use borrow.Author.Rules.{rules}
 use mathlib.Core.Path.{refl}
-use Prim.Native.Nat.{◌-◌}
 use native.Mathlib.Omega.{arith}
-use lib.ListN.{length}
-use Rattle.questions.proofs.Cleared.{Zeroed, zeroed-more, zeroed-all}
+use Rattle.questions.proofs.Cleared.{zeroed-more, zeroed-all}
 use Rattle.questions.proofs.down.clear.Goals as goal
 
 pub loop-i-init : goal.loop-i-init
 loop-i-init c = record { at-most = omega arith; whole = refl; zero-at = λ k l. absurd (omega arith) }
-
-pub offset_bounds-parts-i : goal.offset_bounds-parts-i
-offset_bounds-parts-i c = omega (arith, c.loop-i.invariant.whole, c.well-formed.0.1)
 
 pub loop-i-smaller : goal.loop-i-smaller
 loop-i-smaller c = omega (arith, c.loop-i.invariant.whole)

@@ -1,11 +1,8 @@
 -- `questions::down::clear` meets its contract. The loop's invariant: the numbers before i are zero.
 -- Assumes nothing.
-use borrow.Author.Rules.{rules}
-use mathlib.Core.Path.{refl}
 use Prim.Native.Nat.{◌-◌}
-use native.Mathlib.Omega.{arith}
 use lib.ListN.{length}
-use Rattle.questions.proofs.Cleared.{Zeroed, zeroed-more, zeroed-all}
+use Rattle.questions.proofs.Cleared.{Zeroed}
 use Rattle.questions.proofs.down.clear.Given as goal
 
 abbrev pub invariant-loop-i : goal.invariant-loop-i
@@ -13,4 +10,3 @@ invariant-loop-i l = Zeroed (length l.initial.parts) l.i l.parts
 
 abbrev pub decreases-loop-i : goal.decreases-loop-i
 decreases-loop-i l = length l.initial.parts - l.i
-
