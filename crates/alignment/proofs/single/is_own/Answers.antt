@@ -1,24 +1,18 @@
 -- `alignment::single::is_own` meets its contract.
 -- Assumes nothing.
 use borrow.Author.Tests.{not-false}
-use mathlib.Core.Path.{refl, sym, ◌∙◌}
+use mathlib.Core.Path.{sym, ◌∙◌}
 use native.Mathlib.Omega.{arith}
-use mir.Syntax.{w32, w64}
+use mir.Syntax.{w32}
 use mir.Val.{SFits}
 use Rattle.integers.proofs.Linear.{ints, ◌∴◌}
-use Rattle.integers.proofs.Machine.{plain, test-eq}
-use Rattle.granules.proofs.Tests.{true≢false, eqb-iff}
+use Rattle.integers.proofs.Machine.{plain}
+use Rattle.granules.proofs.Tests.{eqb-iff}
 use Rattle.cursors.specs.Found.{Within}
 use Rattle.cursors.proofs.Numbers.{numbers}
 use Rattle.cursors.proofs.Bounds.{in-range}
 use Rattle.alignment.proofs.single.is_own.Goals as goal
 use Rattle.alignment.proofs.single.is_own.Goals.{Else-not-in_range, Start}
-
-pub returns-then-distance-period : goal.returns-then-distance-period
-returns-then-distance-period c = record { even = λ e. absurd (true≢false e refl); along = λ e. absurd (true≢false e refl) }
-
-pub returns-then-not-in_range : goal.returns-then-not-in_range
-returns-then-not-in_range c = record { even = λ e. absurd (true≢false e refl); along = λ e. absurd (true≢false e refl) }
 
 -- the number is within the limits
 within : (c : Else-not-in_range) → Within 1000000000 c.args.first
@@ -44,14 +38,12 @@ others-requires c =
     let n = numbers s.args.period s.args.distance s.args.cells.now s.requires in
     record { within = simp plain (within c); cells_len_bound = omega (arith, n.whole, n.high) }
 
-pub returns : goal.returns
-returns c =
-    let e = (goal.at.returns c).Else-not-in_range in
+pub returns-clause-along : goal.returns-clause-along
+returns-clause-along c =
+    let e = (goal.at.returns-clause-along c).Else-not-in_range in
     let s = (goal.at.Else-not-in_range e).Start in
     let f = s.ranges.first in
     let g = small e in
     let h = simp plain at c.others.ensures.none in
     let i = eqb-iff c.others.result 0 in
-    let p = s.ranges.period in
-    let n = s.ranges.distance in
-    record { even = λ z. (test-eq w64 s.args.distance s.args.period s.ranges.distance s.ranges.period).0 e.if-distance-period.false; along = λ z. h (i.0 z) }
+    λ z. h (i.0 z)
