@@ -1,6 +1,5 @@
 -- `select_granules::decided` meets its contract: select-up decides in its own way, and the kinds that pick in one.
 -- Assumes nothing.
-use borrow.Author.Rules.{rules}
 use mathlib.Core.Path.{◌≡◌, refl, sym, ◌∙◌, subst}
 use mathlib.Core.Bool.{Bool, true, false}
 use Prim.Native.Nat.{◌^◌}
@@ -41,17 +40,16 @@ up-decides (Down p) a b j h m d o e f = absurd (true≢false o refl)
 up-decides Up a b j h m d o e f = decides Up a b j h m d f.0 f.1 e tt
 up-decides (Intersecting p) a b j h m d o e f = absurd (true≢false o refl)
 
-pub holds_granule-holds-requires : goal.holds_granule-holds-requires
-holds_granule-holds-requires c =
-    let s = (goal.at.holds_granule-holds-requires c).Start in
+pub holds_granule-holds-requires-clause-t_value_2 : goal.holds_granule-holds-requires-clause-t_value_2
+holds_granule-holds-requires-clause-t_value_2 c =
+    let s = (goal.at.holds_granule-holds-requires-clause-t_value_2 c).Start in
     let p = s.ranges.a_period in
     let n = s.ranges.a_distance in
     let q = s.ranges.b_period in
     let m = s.ranges.b_distance in
     let t = s.ranges.t in
     let j = s.ranges.j in
-    let r = s.requires in
-    record { sound = (simp plain (r.0, (r.1.0, (wider s, r.1.1.1.1.1)))).0; sound_2 = (simp plain (r.0, (r.1.0, (wider s, r.1.1.1.1.1)))).1; within = (simp plain (r.0, (r.1.0, (wider s, r.1.1.1.1.1)))).2; t_value = (simp plain (r.0, (r.1.0, (wider s, r.1.1.1.1.1)))).3; a_value = (simp plain (r.0, (r.1.0, (wider s, r.1.1.1.1.1)))).4; b_value = (simp plain (r.0, (r.1.0, (wider s, r.1.1.1.1.1)))).5; t_value_2 = (simp plain (r.0, (r.1.0, (wider s, r.1.1.1.1.1)))).6 }
+    simp plain s.requires.t_value_2
 
 pub returns-then-is_up : goal.returns-then-is_up
 returns-then-is_up c =
@@ -65,7 +63,7 @@ returns-then-is_up c =
     let j = s.ranges.j in
     up-decides s.args.s (a-row s) (b-row s) s.args.j h.holds_granule-holds.result s.args.m c.decide.result (sym u.is_up.ensures ∙ h.if-is_up.true)
     (simp plain at h.holds_granule-holds.ensures)
-    c.decide.ensures
+    (c.decide.ensures.holds, c.decide.ensures.picked)
 
 limits : (w : Bool) (p : Pick) → Picking (selection_by w p) → PickLimits p
 limits true p l = l
@@ -95,12 +93,21 @@ judged-requires c =
     let m = s.ranges.b_distance in
     let t = s.ranges.t in
     let j = s.ranges.j in
-    let r = s.requires in
-    let e = selection-is c in
+    let e = selection-is (goal.at.judged-requires c).After-is_whole in
     let whole = c.is_whole.result in
     let pick = c.pick_of.result in
-    let known = subst (λ (x : Selection). Remembers x (a-row s) (b-row s) s.args.m) e r.1.1.1.0 in
-    record { sound = (simp plain (r.0, (r.1.0, (limits whole pick (subst Picking e r.1.1.0), (recalled whole pick (a-row s) (b-row s) s.args.m known, r.1.1.1.1))))).0; sound_2 = (simp plain (r.0, (r.1.0, (limits whole pick (subst Picking e r.1.1.0), (recalled whole pick (a-row s) (b-row s) s.args.m known, r.1.1.1.1))))).1; pick_limits = (simp plain (r.0, (r.1.0, (limits whole pick (subst Picking e r.1.1.0), (recalled whole pick (a-row s) (b-row s) s.args.m known, r.1.1.1.1))))).2; recalls = (simp plain (r.0, (r.1.0, (limits whole pick (subst Picking e r.1.1.0), (recalled whole pick (a-row s) (b-row s) s.args.m known, r.1.1.1.1))))).3; within = (simp plain (r.0, (r.1.0, (limits whole pick (subst Picking e r.1.1.0), (recalled whole pick (a-row s) (b-row s) s.args.m known, r.1.1.1.1))))).4; t_value = (simp plain (r.0, (r.1.0, (limits whole pick (subst Picking e r.1.1.0), (recalled whole pick (a-row s) (b-row s) s.args.m known, r.1.1.1.1))))).5; a_value = (simp plain (r.0, (r.1.0, (limits whole pick (subst Picking e r.1.1.0), (recalled whole pick (a-row s) (b-row s) s.args.m known, r.1.1.1.1))))).6; b_value = (simp plain (r.0, (r.1.0, (limits whole pick (subst Picking e r.1.1.0), (recalled whole pick (a-row s) (b-row s) s.args.m known, r.1.1.1.1))))).7; t_value_2 = (simp plain (r.0, (r.1.0, (limits whole pick (subst Picking e r.1.1.0), (recalled whole pick (a-row s) (b-row s) s.args.m known, r.1.1.1.1))))).8 }
+    let known = subst (λ (x : Selection). Remembers x (a-row s) (b-row s) s.args.m) e s.requires.remembers in
+    record {
+      sound = simp plain s.requires.sound;
+      sound_2 = simp plain s.requires.sound_2;
+      pick_limits = limits whole pick (subst Picking e s.requires.picking);
+      recalls = simp plain (recalled whole pick (a-row s) (b-row s) s.args.m known);
+      within = simp plain s.requires.within;
+      t_value = simp plain s.requires.t_value;
+      a_value = simp plain s.requires.a_value;
+      b_value = simp plain s.requires.b_value;
+      t_value_2 = simp plain s.requires.t_value_2;
+    }
 
 pub returns : goal.returns
 returns c =

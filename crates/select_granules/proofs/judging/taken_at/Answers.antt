@@ -1,7 +1,6 @@
 -- `select_granules::judging::taken_at` meets its contract: what lies between the first and the last that are taken is taken, where it is in question.
 -- Assumes nothing.
-use borrow.Author.Rules.{rules, sfits_of}
-use borrow.Author.Tests.{not-true, not-false}
+use borrow.Author.Rules.{rules}
 use mathlib.Core.Path.{◌≡◌, sym, ◌∙◌, subst}
 use mathlib.Core.Bool.{Bool, true, false}
 use native.Mathlib.Omega.{arith}
@@ -9,6 +8,7 @@ use Prim.Native.Nat.{◌^◌}
 use lib.IntN.{pos, neg_ℤ}
 use lib.Signed.{◌≤ℤ◌}
 use mir.Syntax.{w64}
+use mir.Val.{SFits}
 use Rattle.integers.proofs.Linear.{ints, ◌∴◌}
 use Rattle.integers.proofs.Machine.{plain, test-eq}
 use Rattle.calendar.specs.Meaning.{Row}
@@ -25,7 +25,7 @@ use Rattle.select_granules.specs.Memos.{taken, Picks}
 use Rattle.select_granules.specs.Deciding.{takes}
 use Rattle.select_granules.proofs.Decisions.{not_taken, taken_is, taken-low, taken-high, meets, lies}
 use Rattle.select_granules.proofs.judging.taken_at.Goals as goal
-use Rattle.select_granules.proofs.judging.taken_at.Goals.{After-inside_at, After-struct_told-1, After-struct_told-2-1, After-taken, Else-j-m-2, Else-not-taken, Start}
+use Rattle.select_granules.proofs.judging.taken_at.Goals.{After-inside_at, After-taken, Else-not-taken, Start}
 
 abbrev a-row : Start → Row
 a-row s = given s.args.a_period s.args.a_distance s.args.a_cells.now
@@ -49,10 +49,10 @@ pub returns-then-not-taken : goal.returns-then-not-taken
 returns-then-not-taken c =
     let d = (goal.at.returns-then-not-taken c).After-taken in
     let s = (goal.at.After-taken d).Start in
-    not_taken s.args.pick s.args.whole (a-row s) (b-row s) s.args.j s.args.i s.args.m (picks s) (sym (between d) ∙ not-true _ c.if-not-taken.true-raw)
+    not_taken s.args.pick s.args.whole (a-row s) (b-row s) s.args.j s.args.i s.args.m (picks s) (sym (between d) ∙ c.if-not-taken.true)
 
 is-between : (c : Else-not-taken) → let s = (goal.at.Else-not-taken c).Start in taken s.args.m s.args.j ≡ true
-is-between c = sym (between (goal.at.Else-not-taken c).After-taken) ∙ not-false _ c.if-not-taken.false-raw
+is-between c = sym (between (goal.at.Else-not-taken c).After-taken) ∙ c.if-not-taken.false
 
 -- it is taken exactly if it is in question
 asked : (c : Else-not-taken) (w : Bool)
@@ -71,31 +71,26 @@ pub returns-then-not-whole : goal.returns-then-not-whole
 returns-then-not-whole c =
     let d = (goal.at.returns-then-not-whole c).Else-not-taken in
     let s = (goal.at.Else-not-taken d).Start in
-    let l = s.requires.t_value in
-    meets s.args.pick (a-row s) (b-row s) (a-rules s) (b-rules s) s.args.t s.args.j l.0 s.args.i l.1.0 ∙ asked d false (not-true _ c.if-not-whole.true-raw)
+    meets s.args.pick (a-row s) (b-row s) (a-rules s) (b-rules s) s.args.t s.args.j s.requires.t_value s.args.i s.requires.t_value_2 ∙ asked d false (c.if-not-whole.true)
 
 -- ---- the first and the last that are taken
 pub returns-then-j-m : goal.returns-then-j-m
 returns-then-j-m c =
-    let e = (goal.at.returns-then-j-m c).After-struct_told-1 in
-    let d = (goal.at.After-struct_told-1 e).Else-not-taken in
+    let d = (goal.at.returns-then-j-m c).Else-not-taken in
     let s = (goal.at.Else-not-taken d).Start in
-    let low = sfits_of e.struct_told-1.given.1.1.0.1 in
+    let low : SFits w64 s.args.m.low = search rules in
     taken-low s.args.pick s.args.whole (a-row s) (b-row s) s.args.j s.args.i s.args.m (picks s) (is-between d)
     ((test-eq w64 s.args.j s.args.m.low s.ranges.j low).0 c.if-j-m.true)
 
 pub returns-then-j-m-2 : goal.returns-then-j-m-2
 returns-then-j-m-2 c =
-    let e = (goal.at.returns-then-j-m-2 c).After-struct_told-2-1 in
-    let d = (goal.at.After-struct_told-2-1 e).Else-not-taken in
+    let d = (goal.at.returns-then-j-m-2 c).Else-not-taken in
     let s = (goal.at.Else-not-taken d).Start in
-    let high = sfits_of e.struct_told-2-1.given.1.1.1.0.1 in
+    let high : SFits w64 s.args.m.high = search rules in
     taken-high s.args.pick s.args.whole (a-row s) (b-row s) s.args.j s.args.i s.args.m (picks s) (is-between d)
     ((test-eq w64 s.args.j s.args.m.high s.ranges.j high).0 c.if-j-m-2.true)
 
 -- ---- another between them
-abbrev begun : Else-j-m-2 → Else-not-taken
-begun c = (goal.at.Else-j-m-2 c).Else-not-taken
 
 abbrev place : Start → CursorPair
 place s = record { b = s.args.a; k = s.args.j; a = s.args.b; i = s.args.i }
@@ -103,36 +98,35 @@ place s = record { b = s.args.a; k = s.args.j; a = s.args.b; i = s.args.i }
 placed : (s : Start) → Overlaps (a-row s) (b-row s) (place s)
 placed s =
     let l = s.requires.within in
-    let lo : neg_ℤ (pos (2 ^ 59)) ≤ℤ s.args.t = l.0.0 ∴ simp ints (omega arith) in
-    let hi : s.args.t ≤ℤ pos (2 ^ 59) = l.0.1 ∴ simp ints (omega arith) in
-    overlaps (a-row s) (b-row s) (a-rules s) (place s) s.args.t lo hi l.1.1.1.0 l.1.0 l.1.1.1.1.0 l.1.1.0
+    let lo : neg_ℤ (pos (2 ^ 59)) ≤ℤ s.args.t = l.0 ∴ simp ints (omega arith) in
+    let hi : s.args.t ≤ℤ pos (2 ^ 59) = l.1 ∴ simp ints (omega arith) in
+    overlaps (a-row s) (b-row s) (a-rules s) (place s) s.args.t lo hi s.requires.a_value s.requires.t_value s.requires.b_value s.requires.t_value_2
 
-pub inside_at-requires : goal.inside_at-requires
-inside_at-requires c =
-    let s = (begun c).before.before in
-    let p = s.fits.a_period in
-    let n = s.fits.a_distance in
-    let q = s.fits.b_period in
-    let m = s.fits.b_distance in
-    let j = s.fits.j in
-    let i = s.fits.i in
-    record { sound = (simp plain (s.requires.sound, (s.requires.sound_2, placed s))).0; sound_2 = (simp plain (s.requires.sound, (s.requires.sound_2, placed s))).1; overlaps = (simp plain (s.requires.sound, (s.requires.sound_2, placed s))).2 }
+pub inside_at-requires-clause-overlaps : goal.inside_at-requires-clause-overlaps
+inside_at-requires-clause-overlaps c =
+    let s = (goal.at.inside_at-requires-clause-overlaps c).Start in
+    let p = s.ranges.a_period in
+    let n = s.ranges.a_distance in
+    let q = s.ranges.b_period in
+    let m = s.ranges.b_distance in
+    let j = s.ranges.j in
+    let i = s.ranges.i in
+    simp plain (placed s)
 
-inside_is : (c : After-inside_at) → let s = (begun (goal.at.After-inside_at c).Else-j-m-2).before.before in c.inside_at.result ≡ inside (a-row s) s.args.j (b-row s) s.args.i
+inside_is : (c : After-inside_at) → let s = (goal.at.After-inside_at c).Start in c.inside_at.result ≡ inside (a-row s) s.args.j (b-row s) s.args.i
 inside_is c =
-    let s = (begun (goal.at.After-inside_at c).Else-j-m-2).before.before in
-    let p = s.fits.a_period in
-    let n = s.fits.a_distance in
-    let q = s.fits.b_period in
-    let m = s.fits.b_distance in
-    let j = s.fits.j in
-    let i = s.fits.i in
+    let s = (goal.at.After-inside_at c).Start in
+    let p = s.ranges.a_period in
+    let n = s.ranges.a_distance in
+    let q = s.ranges.b_period in
+    let m = s.ranges.b_distance in
+    let j = s.ranges.j in
+    let i = s.ranges.i in
     simp plain at c.inside_at.ensures
 
 pub returns : goal.returns
 returns c =
-    let d = begun (goal.at.returns c).Else-j-m-2 in
+    let d = (goal.at.returns c).Else-not-taken in
     let s = (goal.at.Else-not-taken d).Start in
-    let l = s.requires.t_value in
-    let whole = not-false _ c.if-not-whole.false-raw in
-    inside_is c ∙ lies s.args.pick (a-row s) (b-row s) (a-rules s) (b-rules s) s.args.t s.args.j l.0 s.args.i l.1.0 ∙ asked d true whole
+    let whole = c.if-not-whole.false in
+    inside_is c ∙ lies s.args.pick (a-row s) (b-row s) (a-rules s) (b-rules s) s.args.t s.args.j s.requires.t_value s.args.i s.requires.t_value_2 ∙ asked d true whole

@@ -1,6 +1,6 @@
 -- `select_granules::taking::pick_start` meets its contract: Pick counts from the beginning, or from the end of all that are counted.
 -- Assumes nothing.
-use mathlib.Core.Path.{◌≡◌, sym}
+use mathlib.Core.Path.{◌≡◌}
 use mathlib.Core.Logic.{⊎_elim}
 use mathlib.Core.List.{List}
 use native.Mathlib.Omega.{arith}
@@ -15,9 +15,9 @@ use Rattle.integers.proofs.Order.{≤ℤ-antisym, le-or-lt}
 use Rattle.calendar.specs.Questions.{given}
 use Rattle.cursors.proofs.Numbers.{Numbers, numbers}
 use Rattle.candidates.specs.Tallies.{candidates}
-use Rattle.select_granules.proofs.Starts.{start-above, start-below}
+use Rattle.select_granules.proofs.Starts.{start-below}
 use Rattle.select_granules.proofs.taking.pick_start.Goals as goal
-use Rattle.select_granules.proofs.taking.pick_start.Goals.{After-counted_all-all, After-struct_told-3-1, Start}
+use Rattle.select_granules.proofs.taking.pick_start.Goals.{After-counted_all-all, Start}
 
 -- the granules in question
 abbrev asked : Start → List ℤ
@@ -30,26 +30,6 @@ b-numbers s = numbers s.args.b_period s.args.b_distance s.args.b_cells.now s.req
 
 x_fits : (s : Start) → SFits w64 s.args.pick.x
 x_fits s = let l = s.requires.pick_limits in l.x-low ∴ l.x-high ∴ simp ints (omega arith)
-
--- ---- from the beginning
-pub returns-then-pick-gt0 : goal.returns-then-pick-gt0
-returns-then-pick-gt0 c =
-    let s = (goal.at.returns-then-pick-gt0 c).Start in
-    let l = s.requires.pick_limits in
-    let x = x_fits s in
-    let h : pos 0 <ℤ s.args.pick.x = simp plain at c.if-pick-gt0.true in
-    record { at = (simp plain (sym (start-above s.args.pick.x (length (asked s)) h), (l.x-low ∴ simp ints (omega arith), l.x-high ∴ simp ints (omega arith)))).0; near = (simp plain (sym (start-above s.args.pick.x (length (asked s)) h), (l.x-low ∴ simp ints (omega arith), l.x-high ∴ simp ints (omega arith)))).1 }
-
--- ---- from the end
-pub counted_all-all-requires : goal.counted_all-all-requires
-counted_all-all-requires c =
-    let s = (goal.at.counted_all-all-requires c).Start in
-    let p = s.ranges.a_period in
-    let n = s.ranges.a_distance in
-    let q = s.ranges.b_period in
-    let m = s.ranges.b_distance in
-    let i = s.ranges.i in
-    record { sound = (simp plain (s.requires.sound, (s.requires.sound_2, s.requires.first_instant))).0; sound_2 = (simp plain (s.requires.sound, (s.requires.sound_2, s.requires.first_instant))).1; first_instant = (simp plain (s.requires.sound, (s.requires.sound_2, s.requires.first_instant))).2; own_value = (simp plain (s.requires.sound, (s.requires.sound_2, s.requires.first_instant))).3; other_value = (simp plain (s.requires.sound, (s.requires.sound_2, s.requires.first_instant))).4 }
 
 abbrev begun : After-counted_all-all → Start
 begun c = (goal.at.After-counted_all-all c).Start
@@ -64,7 +44,7 @@ count-is c =
     let m = s.ranges.b_distance in
     let i = s.ranges.i in
     let e = simp plain at c.counted_all-all.ensures in
-    (e.0, (e.0 ∴ simp ints (omega arith), e.1.1))
+    (e.count, (e.count ∴ simp ints (omega arith), e.few))
 
 -- the numbers on the way
 record Sums (n x : ℤ) : Type 0 where
@@ -84,28 +64,12 @@ sums c =
       start_fits = f.0 ∴ f.1 ∴ n.period-is ∴ n.high ∴ l.x-low ∴ l.x-high ∴ simp ints (omega arith);
     }
 
-abbrev all : After-struct_told-3-1 → After-counted_all-all
-all c = (goal.at.After-struct_told-3-1 c).After-counted_all-all
-
-pub overflow_add-result : goal.overflow_add-result
-overflow_add-result c =
-    let n = (sums (all c)).count_fits in
-    let x = x_fits (begun (all c)) in
-    simp plain (sums (all c)).sum_fits
-
-pub overflow_add-result-2 : goal.overflow_add-result-2
-overflow_add-result-2 c =
-    let n = (sums (all c)).count_fits in
-    let x = x_fits (begun (all c)) in
-    let e = (sums (all c)).sum_fits in
-    simp plain (sums (all c)).start_fits
-
 below : {x : ℤ} → x ≤ℤ pos 0 → ¬ (x ≡ pos 0) → x <ℤ pos 0
 below {x} h f = ⊎_elim (λ (g : pos 0 ≤ℤ x). absurd (f (≤ℤ-antisym h g))) (λ g. g) (le-or-lt (pos 0) x)
 
 pub returns : goal.returns
 returns c =
-    let d = all c in
+    let d = (goal.at.returns c).After-counted_all-all in
     let s = begun d in
     let l = s.requires.pick_limits in
     let n = (sums d).count_fits in
@@ -114,12 +78,9 @@ returns c =
     let o = (sums d).start_fits in
     let f = count-is d in
     let b = b-numbers s in
-    let h : s.args.pick.x ≤ℤ pos 0 = simp plain at d.if-pick-gt0.left in
+    let h : s.args.pick.x ≤ℤ pos 0 = simp plain at c.if-pick-gt0.false in
     let t = start-below s.args.pick.x (length (asked s)) (below h l.not-zero) in
-    record { at = (simp plain (
-      f.0 ∴ t ∴ simp ints (omega arith),
-      (f.1.0 ∴ l.x-low ∴ simp ints (omega arith), f.1.1 ∴ b.period-is ∴ b.high ∴ h ∴ simp ints (omega arith)),
-    )).0; near = (simp plain (
-      f.0 ∴ t ∴ simp ints (omega arith),
-      (f.1.0 ∴ l.x-low ∴ simp ints (omega arith), f.1.1 ∴ b.period-is ∴ b.high ∴ h ∴ simp ints (omega arith)),
-    )).1 }
+    record {
+      at = simp plain (f.0 ∴ t ∴ simp ints (omega arith));
+      near = simp plain (f.1.0 ∴ l.x-low ∴ simp ints (omega arith), f.1.1 ∴ b.period-is ∴ b.high ∴ h ∴ simp ints (omega arith));
+    }

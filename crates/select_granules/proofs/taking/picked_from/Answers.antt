@@ -1,6 +1,6 @@
 -- `select_granules::taking::picked_from` meets its contract: Pick takes what the tally from its start on says.
 -- Assumes nothing.
-use borrow.Author.Rules.{sfits_of}
+use borrow.Author.Rules.{rules}
 use mathlib.Core.Path.{◌≡◌, refl, ◌∙◌, ap}
 use mathlib.Core.List.{List}
 use Prim.Native.Nat.{◌^◌}
@@ -24,7 +24,7 @@ use Rattle.select_granules.specs.declared.Picked.{Picked}
 use Rattle.select_granules.specs.Memos.{picked_of}
 use Rattle.select_granules.proofs.Starts.{picks}
 use Rattle.select_granules.proofs.taking.picked_from.Goals as goal
-use Rattle.select_granules.proofs.taking.picked_from.Goals.{After-pick_start-low, After-picked_of, After-tallied-arg-1, After-tallied-arg-2-1, After-tallied-tally, Start}
+use Rattle.select_granules.proofs.taking.picked_from.Goals.{After-pick_start-low, After-picked_of, After-tallied-tally, Start}
 
 abbrev a-row : Start → Row
 a-row s = given s.args.a_period s.args.a_distance s.args.a_cells.now
@@ -42,16 +42,6 @@ a-rules s = valid s.args.a_period s.args.a_distance s.args.a_cells.now s.require
 b-rules : (s : Start) → Valid (b-row s)
 b-rules s = valid s.args.b_period s.args.b_distance s.args.b_cells.now s.requires.sound_2
 
--- ---- the positions
-pub pick_start-low-requires : goal.pick_start-low-requires
-pick_start-low-requires s =
-    let p = s.ranges.a_period in
-    let n = s.ranges.a_distance in
-    let q = s.ranges.b_period in
-    let m = s.ranges.b_distance in
-    let i = s.ranges.i in
-    record { sound = (simp plain s.requires).0; sound_2 = (simp plain s.requires).1; pick_limits = (simp plain s.requires).2; first_instant = (simp plain s.requires).3; own_value = (simp plain s.requires).4; other_value = (simp plain s.requires).5 }
-
 low-is : (c : After-pick_start-low) → let s = (goal.at.After-pick_start-low c).Start in
     (c.pick_start-low.result ≡ pick_start s.args.pick.x (length (asked s))) × Within (2 ^ 23) c.pick_start-low.result
 low-is c =
@@ -61,7 +51,7 @@ low-is c =
     let q = s.ranges.b_period in
     let m = s.ranges.b_distance in
     let i = s.ranges.i in
-    simp plain at c.pick_start-low.ensures
+    (simp plain at c.pick_start-low.ensures.at, c.pick_start-low.ensures.near)
 
 -- the numbers on the way
 record Sums (low y : ℤ) : Type 0 where
@@ -81,45 +71,17 @@ sums c =
       high_fits = n.0 ∴ n.1 ∴ l.y-low ∴ l.y-high ∴ simp ints (omega arith);
     }
 
-pub overflow_add-low : goal.overflow_add-low
-overflow_add-low c =
-    let n = sums (goal.at.overflow_add-low c).After-tallied-arg-2-1 in
-    let l = n.low_fits in
-    let y = n.y-fits in
-    simp plain n.sum_fits
-
-pub overflow_sub-low : goal.overflow_sub-low
-overflow_sub-low c =
-    let n = sums (goal.at.overflow_sub-low c).After-tallied-arg-2-1 in
-    let l = n.low_fits in
-    let y = n.y-fits in
-    let e = n.sum_fits in
-    simp plain n.high_fits
-
--- ---- what stands there
-pub tallied-tally-requires : goal.tallied-tally-requires
-tallied-tally-requires c =
-    let s = (goal.at.tallied-tally-requires c).After-tallied-arg-1 in
-    let p = s.ranges.a_period in
-    let n = s.ranges.a_distance in
-    let q = s.ranges.b_period in
-    let m = s.ranges.b_distance in
-    let i = s.ranges.i in
-    let g = s.requires.first_instant in
-    let t : SFits w64 s.args.first.at = g.0.near.0 ∴ g.0.near.1 ∴ simp ints (omega arith) in
-    record { sound = (simp plain (s.requires.sound, (s.requires.sound_2, (g.0, (g.1.1, g.1.0))))).0; sound_2 = (simp plain (s.requires.sound, (s.requires.sound_2, (g.0, (g.1.1, g.1.0))))).1; first_instant = (simp plain (s.requires.sound, (s.requires.sound_2, (g.0, (g.1.1, g.1.0))))).2; a_value = (simp plain (s.requires.sound, (s.requires.sound_2, (g.0, (g.1.1, g.1.0))))).3; b_value = (simp plain (s.requires.sound, (s.requires.sound_2, (g.0, (g.1.1, g.1.0))))).4 }
-
 abbrev started : After-tallied-tally → After-pick_start-low
-started c = (goal.at.After-tallied-tally c).After-tallied-arg-2-1
+started c = (goal.at.After-tallied-tally c).After-pick_start-low
 
 abbrev begun : After-tallied-tally → Start
-begun c = (started c).before
+begun c = (goal.at.After-tallied-tally c).Start
 
 abbrev low : After-tallied-tally → ℤ
-low c = (started c).pick-start.result
+low c = c.pick_start-low.result
 
 abbrev high : After-tallied-tally → ℤ
-high c = low c +ℤ (begun c).args.pick.y -ℤ pos 1
+high c = low c +ℤ c.args.pick.y -ℤ pos 1
 
 ends-are : (c : After-tallied-tally) → let all = tally_of (low c) (high c) (asked (begun c)) in
     (c.tallied-tally.result.low ≡ all.low) × (c.tallied-tally.result.high ≡ all.high)
@@ -136,30 +98,21 @@ ends-are c =
     let h = (sums (started c)).high_fits in
     (simp plain at c.tallied-tally.ensures.low, simp plain at c.tallied-tally.ensures.high)
 
-picked-is : (c : After-picked_of) → let t = (goal.at.After-picked_of c).After-tallied-tally in
-    c.picked_of.result ≡ picked_of (begun t).args.i t.tallied-tally.result.low t.tallied-tally.result.high
+picked-is : (c : After-picked_of) → c.picked_of.result ≡ picked_of c.args.i c.tallied-tally.result.low c.tallied-tally.result.high
 picked-is c =
-    let t = (goal.at.After-picked_of c).After-tallied-tally in
-    let i = (begun t).ranges.i in
-    let l : SFits w64 t.tallied-tally.result.low = sfits_of c.struct_told-3-1.given.1.0.1 in
-    let h : SFits w64 t.tallied-tally.result.high = sfits_of c.struct_told-3-1.given.1.1.0.1 in
+    let i = c.ranges.i in
+    let l : SFits w64 c.tallied-tally.result.low = search rules in
+    let h : SFits w64 c.tallied-tally.result.high = search rules in
     simp plain at c.picked_of.ensures
 
-pub returns : goal.returns
-returns c =
-    let t = (goal.at.returns c).After-tallied-tally in
+pub returns-clause-picks : goal.returns-clause-picks
+returns-clause-picks c =
+    let t = (goal.at.returns-clause-picks c).After-tallied-tally in
     let s = begun t in
-    let e = picked-is c in
+    let e = picked-is (goal.at.returns-clause-picks c).After-picked_of in
     let f = ends-are t in
     let all = tally-fields (low t) (high t) (asked s) (tally_of (low t) (high t) (asked s)) refl in
-    let r = (candidates-lists s.args.whole (a-row s) (b-row s) (a-rules s) (b-rules s) s.args.i).rising in record { known = ((
-      (ap (λ (m : Picked). m.known) e, ap (λ (m : Picked). m.of) e),
-      picks s.args.pick (asked s) r (low t) (high t) (low-is (started t)).0 refl s.requires.pick_limits.y-low c.picked_of.result
-          (ap (λ (m : Picked). m.low) e ∙ f.0 ∙ all.low-is)
-          (ap (λ (m : Picked). m.high) e ∙ f.1 ∙ all.high_is),
-    )).0; picks = ((
-      (ap (λ (m : Picked). m.known) e, ap (λ (m : Picked). m.of) e),
-      picks s.args.pick (asked s) r (low t) (high t) (low-is (started t)).0 refl s.requires.pick_limits.y-low c.picked_of.result
-          (ap (λ (m : Picked). m.low) e ∙ f.0 ∙ all.low-is)
-          (ap (λ (m : Picked). m.high) e ∙ f.1 ∙ all.high_is),
-    )).1 }
+    let r = (candidates-lists s.args.whole (a-row s) (b-row s) (a-rules s) (b-rules s) s.args.i).rising in
+    picks s.args.pick (asked s) r (low t) (high t) (low-is (started t)).0 refl s.requires.pick_limits.y-low c.picked_of.result
+    (ap (λ (m : Picked). m.low) e ∙ f.0 ∙ all.low-is)
+    (ap (λ (m : Picked). m.high) e ∙ f.1 ∙ all.high_is)

@@ -1,6 +1,6 @@
 -- `select_granules::taking::picked_last` meets its contract: the greatest of the tally of all is the last of them.
 -- Assumes nothing.
-use borrow.Author.Rules.{sfits_of}
+use borrow.Author.Rules.{rules}
 use mathlib.Core.Path.{◌≡◌, refl, sym, ◌∙◌, ap₂}
 use mathlib.Core.Logic.{◌↔◌}
 use mathlib.Core.List.{List, [], ◌∷◌}
@@ -16,22 +16,13 @@ use Rattle.cursors.proofs.Numbers.{numbers}
 use Rattle.candidates.specs.Tallies.{candidates, last_or}
 use Rattle.select_granules.specs.Memos.{picked_of}
 use Rattle.select_granules.proofs.taking.picked_last.Goals as goal
-use Rattle.select_granules.proofs.taking.picked_last.Goals.{After-counted_all-all, Else-all-eq0, Start}
+use Rattle.select_granules.proofs.taking.picked_last.Goals.{After-counted_all-all, Start}
 
 -- the granules in question
 abbrev asked : Start → List ℤ
 asked s =
     candidates s.args.whole (given s.args.a_period s.args.a_distance s.args.a_cells.now)
     (given s.args.b_period s.args.b_distance s.args.b_cells.now) s.args.i
-
-pub counted_all-all-requires : goal.counted_all-all-requires
-counted_all-all-requires s =
-    let p = s.ranges.a_period in
-    let n = s.ranges.a_distance in
-    let q = s.ranges.b_period in
-    let m = s.ranges.b_distance in
-    let i = s.ranges.i in
-    record { sound = (simp plain s.requires).0; sound_2 = (simp plain s.requires).1; first_instant = (simp plain s.requires).2; own_value = (simp plain s.requires).3; other_value = (simp plain s.requires).4 }
 
 -- what the tally says
 record All (l : List ℤ) (n high : ℤ) : Type 0 where
@@ -51,9 +42,9 @@ all c =
     let e = simp plain at c.counted_all-all.ensures in
     let b = numbers s.args.b_period s.args.b_distance s.args.b_cells.now s.requires.sound_2 in
     record {
-      count-is = e.0;
-      high_is = e.1.0;
-      count_fits = e.0 ∴ e.1.1 ∴ b.period-is ∴ b.high ∴ simp ints (omega arith);
+      count-is = e.count;
+      high_is = e.last;
+      count_fits = e.count ∴ e.few ∴ b.period-is ∴ b.high ∴ simp ints (omega arith);
     }
 
 zero-fits : SFits w64 (pos 0)
@@ -87,12 +78,11 @@ some-last d e (x ∷ l) f = refl
 
 pub returns : goal.returns
 returns c =
-    let t = (goal.at.returns c).Else-all-eq0 in
-    let k = (goal.at.Else-all-eq0 t).After-counted_all-all in
+    let k = (goal.at.returns c).After-counted_all-all in
     let s = (goal.at.After-counted_all-all k).Start in
     let i = s.ranges.i in
     let a = all k in
-    let h : SFits w64 k.counted_all-all.result.high = sfits_of t.struct_told-1.given.1.1.0.1 in
-    let some : ¬ (pos (length (asked s)) ≡ pos 0) = λ e. t.if-all-eq0.false ((is-zero k).1 (a.count-is ∙ e)) in
+    let h : SFits w64 k.counted_all-all.result.high = search rules in
+    let some : ¬ (pos (length (asked s)) ≡ pos 0) = λ e. c.if-all-eq0.false ((is-zero k).1 (a.count-is ∙ e)) in
     let low = a.high_is ∙ some-last (pos 0) (pos 1) (asked s) some in
     simp plain at c.picked_of-2.ensures ∙ ap₂ (picked_of s.args.i) low a.high_is

@@ -1,6 +1,6 @@
 -- `select_granules::up::holds_granule` meets its contract: a tally from the granule's first instant on finds one.
 -- Assumes nothing.
-use borrow.Author.Rules.{rules, sfits_of}
+use borrow.Author.Rules.{rules}
 use mathlib.Core.Path.{◌≡◌, ◌∙◌, ap, ap₂}
 use mathlib.Core.Bool.{true}
 use Prim.Native.Nat.{◌^◌}
@@ -23,7 +23,7 @@ use Rattle.containment.specs.First.{FirstInstant}
 use Rattle.candidates.specs.Tallies.{candidates, tally_of}
 use Rattle.select_granules.proofs.Holding.{holds-is}
 use Rattle.select_granules.proofs.up.holds_granule.Goals as goal
-use Rattle.select_granules.proofs.up.holds_granule.Goals.{After-began-start, After-tallied-arg-1, After-tallied-arg-2-1, After-tallied-tally, Start}
+use Rattle.select_granules.proofs.up.holds_granule.Goals.{After-began-start, After-tallied-tally, Start}
 
 abbrev a-row : Start → Row
 a-row s = given s.args.a_period s.args.a_distance s.args.a_cells.now
@@ -46,7 +46,8 @@ start_is c =
     let q = s.ranges.b_period in
     let m = s.ranges.b_distance in
     let j = s.ranges.j in
-    simp plain at c.began-start.ensures
+    let e = simp plain at c.began-start.ensures in
+    (e.at, (e.own, (e.other, e.near)))
 
 begins : (c : After-began-start) → let s = (goal.at.After-began-start c).Start in FirstInstant (a-row s) s.args.j c.began-start.result.at
 begins c =
@@ -58,24 +59,23 @@ begins c =
       least = rw e (first-at-most (a-row s) (a-rules s) s.args.j);
     }
 
-pub tallied-tally-requires : goal.tallied-tally-requires
-tallied-tally-requires c =
-    let b = (goal.at.tallied-tally-requires c).After-tallied-arg-2-1 in
-    let s = (goal.at.After-tallied-arg-2-1 b).After-tallied-arg-1 in
+pub tallied-tally-requires-clause-first_instant : goal.tallied-tally-requires-clause-first_instant
+tallied-tally-requires-clause-first_instant c =
+    let b = (goal.at.tallied-tally-requires-clause-first_instant c).After-began-start in
+    let s = (goal.at.After-began-start b).Start in
     let p = s.ranges.a_period in
     let n = s.ranges.a_distance in
     let q = s.ranges.b_period in
     let m = s.ranges.b_distance in
     let j = s.ranges.j in
-    let t : SFits w64 b.began-start.result.at = sfits_of c.struct_told-1.given.0.1 in
-    let x = start_is b in
-    record { sound = (simp plain (s.requires.sound_2, (s.requires.sound, (begins b, (x.1.1.0, x.1.0))))).0; sound_2 = (simp plain (s.requires.sound_2, (s.requires.sound, (begins b, (x.1.1.0, x.1.0))))).1; first_instant = (simp plain (s.requires.sound_2, (s.requires.sound, (begins b, (x.1.1.0, x.1.0))))).2; a_value = (simp plain (s.requires.sound_2, (s.requires.sound, (begins b, (x.1.1.0, x.1.0))))).3; b_value = (simp plain (s.requires.sound_2, (s.requires.sound, (begins b, (x.1.1.0, x.1.0))))).4 }
+    let t : SFits w64 b.began-start.result.at = search rules in
+    simp plain (begins b)
 
 -- the first of the granules of b inside it, if there is one
-found : (c : After-tallied-tally) → let s = (goal.at.After-tallied-tally c).After-tallied-arg-1 in let t = tally_of (pos 1) (pos 1) (candidates true (b-row s) (a-row s) s.args.j) in
+found : (c : After-tallied-tally) → let s = (goal.at.After-tallied-tally c).Start in let t = tally_of (pos 1) (pos 1) (candidates true (b-row s) (a-row s) s.args.j) in
     (c.tallied-tally.result.low ≡ t.low) × (c.tallied-tally.result.high ≡ t.high)
 found c =
-    let s = (goal.at.After-tallied-tally c).After-tallied-arg-1 in
+    let s = (goal.at.After-tallied-tally c).Start in
     let p = s.ranges.a_period in
     let n = s.ranges.a_distance in
     let q = s.ranges.b_period in
@@ -86,8 +86,8 @@ found c =
 pub returns : goal.returns
 returns c =
     let t = (goal.at.returns c).After-tallied-tally in
-    let s = (goal.at.After-tallied-tally t).After-tallied-arg-1 in
-    let l : SFits w64 t.tallied-tally.result.low = sfits_of c.struct_told-2-1.given.1.0.1 in
-    let h : SFits w64 t.tallied-tally.result.high = sfits_of c.struct_told-2-1.given.1.1.0.1 in
+    let s = (goal.at.After-tallied-tally t).Start in
+    let l : SFits w64 t.tallied-tally.result.low = search rules in
+    let h : SFits w64 t.tallied-tally.result.high = search rules in
     let e = found t in
-    rw (to_z-of_z l, to_z-of_z h) (ap₂ le_z e.0 e.1 ∙ holds-is (a-row s) (b-row s) (a-rules s) (b-rules s) s.args.j)
+    rw (to_z-of_z {w = w64} l, to_z-of_z {w = w64} h) (ap₂ le_z e.0 e.1 ∙ holds-is (a-row s) (b-row s) (a-rules s) (b-rules s) s.args.j)
