@@ -1,6 +1,5 @@
 -- `fill_pointwise::counted_outcome` meets its contract.
 -- Assumes nothing.
-use borrow.Author.Rules.{rules}
 use native.Mathlib.Omega.{arith}
 use Rattle.granules.proofs.Tests.{ltb_iff, false-iff}
 use Rattle.fill_pointwise.proofs.counted_outcome.Goals as goal

@@ -1,6 +1,5 @@
 -- `fill_pointwise::decided` meets its contract.
 -- Assumes nothing.
-use borrow.Author.Rules.{rules}
 use mathlib.Core.Path.{sym, ◌∙◌, ap}
 use mathlib.Core.Option.{Option, some}
 use lib.IntN.{ℤ}
@@ -21,7 +20,7 @@ pub returns-in-At : goal.returns-in-At
 returns-in-At c =
     let s = (goal.at.returns-in-At c).Start in
     ap {B = Option ℤ} some (to_z-of_z s.ranges.last)
-    ∙ sym (ap (decided-by s) c.enum_told-1.given.1 ∙ ap (λ (x : Found). decided_label Anchor (found x) (found s.args.y) s.args.last) c.enum_told-in-At-1.given.1)
+    ∙ sym (ap (decided-by s) c.in-Anchor.is ∙ ap (λ (x : Found). decided_label Anchor (found x) (found s.args.y) s.args.last) c.in-At.is)
 
 pub returns-in-ByLabels : goal.returns-in-ByLabels
-returns-in-ByLabels c = let s = (goal.at.returns-in-ByLabels c).Start in c.set_label.ensures ∙ sym (ap (decided-by s) c.by-1.given.1)
+returns-in-ByLabels c = let s = (goal.at.returns-in-ByLabels c).Start in c.set_label.ensures ∙ sym (ap (decided-by s) c.in-ByLabels.is)

@@ -45,4 +45,4 @@ returns c =
     let h = simp plain at b.fill_beside-count.ensures in
     let e = rw (k.keeps_first-bare.ensures, k.keeps_shared-shared.ensures) at h in
     beside-fills _ _ _ _ _ _ _ s.requires.fillable s.requires.placed _ _ _ s.requires.serves (tells s) _ _
-    e.0 (c.outcome.ensures ∙ ap (λ (n : ℕ). cond (ltb 0 n) Labelled Unlabelled) e.1)
+    e.cells (c.outcome.ensures ∙ ap (λ (n : ℕ). cond (ltb 0 n) Labelled Unlabelled) e.count)

@@ -1,6 +1,5 @@
 -- `fill_pointwise::fill_pointwise` meets its contract: each way does.
 -- Assumes nothing.
-use borrow.Author.Rules.{rules}
 use mathlib.Core.Path.{◌≡◌, sym, subst}
 use mathlib.Core.List.{List}
 use lib.IntN.{ℤ}
@@ -25,7 +24,7 @@ module _ (s : Start) (k : Pointwise) (e : s.args.by ≡ k) where
       let a = s.args in
       let p = a.pool.now in
       rw (to_z-of_z s.ranges.span)
-      (subst (λ (m : Pointwise). Fillable (kind_of m) (row_in p a.a) (row_in p a.b) × Placed (kind_of m) a.a a.b a.span a.at a.period p) e s.requires)
+      (subst (λ (m : Pointwise). Fillable (kind_of m) (row_in p a.a) (row_in p a.b) × Placed (kind_of m) a.a a.b a.span a.at a.period p) e (s.requires.fillable, s.requires.placed))
 
   filled : (new : List ℤ) (r : Filled) → let a = s.args in
       Fills (operation_of (kind_of k) (row_in a.pool.now a.a) (row_in a.pool.now a.b)) a.at a.period a.pool.now new r
@@ -36,17 +35,13 @@ module _ (s : Start) (k : Pointwise) (e : s.args.by ≡ k) where
       subst (λ (m : Pointwise). Fills (operation_of (kind_of m) (row_in p a.a) (row_in p a.b)) a.at a.period p new r) (sym e) h
 
 pub fill_stepped-requires : goal.fill_stepped-requires
-fill_stepped-requires c = record { fillable = (asked (goal.at.fill_stepped-requires c).Start _ c.enum_told-1.given.1).0; placed = (asked (goal.at.fill_stepped-requires c).Start _ c.enum_told-1.given.1).1 }
+fill_stepped-requires c = record { fillable = (asked (goal.at.fill_stepped-requires c).Start _ c.in-Anchor.is).0; placed = (asked (goal.at.fill_stepped-requires c).Start _ c.in-Anchor.is).1 }
 
 pub fill_set-requires : goal.fill_set-requires
-fill_set-requires c = record { fillable = (asked (goal.at.fill_set-requires c).Start _ c.by-1.given.1).0; placed = (asked (goal.at.fill_set-requires c).Start _ c.by-1.given.1).1 }
+fill_set-requires c = record { fillable = (asked (goal.at.fill_set-requires c).Start _ c.in-ByLabels.is).0; placed = (asked (goal.at.fill_set-requires c).Start _ c.in-ByLabels.is).1 }
 
 pub returns-in-Anchor : goal.returns-in-Anchor
-returns-in-Anchor c =
-    let d = (goal.at.returns-in-Anchor c).In-Anchor in
-    filled (goal.at.In-Anchor d).Start _ d.enum_told-1.given.1 _ _ c.fill_stepped.ensures
+returns-in-Anchor c = filled (goal.at.returns-in-Anchor c).Start _ c.in-Anchor.is _ _ c.fill_stepped.ensures
 
 pub returns-in-ByLabels : goal.returns-in-ByLabels
-returns-in-ByLabels c =
-    let d = (goal.at.returns-in-ByLabels c).In-ByLabels-2 in
-    filled (goal.at.In-ByLabels-2 d).Start _ d.by-1.given.1 _ _ c.fill_set.ensures
+returns-in-ByLabels c = filled (goal.at.returns-in-ByLabels c).Start _ c.in-ByLabels.is _ _ c.fill_set.ensures

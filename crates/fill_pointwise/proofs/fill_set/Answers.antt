@@ -1,6 +1,6 @@
 -- `fill_pointwise::fill_set` meets its contract: each way does.
 -- Assumes nothing.
-use borrow.Author.Rules.{rules, sfits_of}
+use borrow.Author.Rules.{sfits_of}
 use mathlib.Core.List.{List}
 use Prim.Native.Nat.{ℕ}
 use lib.IntN.{ℤ, pos}
@@ -26,7 +26,7 @@ fill_first-requires c =
     let n = s.ranges.span in
     let o = one_of s.args.a s.args.period s.args.pool.now (sfits_of r.struct_told-1.given.1.0.1) (sfits_of r.serves-arg-1.given)
     (r.serves.ensures t.if-serves.true) in
-    record { fillable = (simp plain (s.requires.fillable, (s.requires.placed, o))).0; placed = (simp plain (s.requires.fillable, (s.requires.placed, o))).1; serves = (simp plain (s.requires.fillable, (s.requires.placed, o))).2 }
+    record { fillable = s.requires.fillable; placed = simp plain s.requires.placed; serves = o }
 
 pub fill_second-requires : goal.fill_second-requires
 fill_second-requires c =
@@ -36,4 +36,4 @@ fill_second-requires c =
     let n = s.ranges.span in
     let o = one_of s.args.b s.args.period s.args.pool.now (sfits_of r.struct_told-2-1.given.1.0.1) (sfits_of r.serves-arg-2-1.given)
     (r.serves-2.ensures t.if-serves-2.true) in
-    record { fillable = (simp plain (s.requires.fillable, (s.requires.placed, o))).0; placed = (simp plain (s.requires.fillable, (s.requires.placed, o))).1; serves = (simp plain (s.requires.fillable, (s.requires.placed, o))).2 }
+    record { fillable = s.requires.fillable; placed = simp plain s.requires.placed; serves = o }

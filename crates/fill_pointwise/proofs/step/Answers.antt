@@ -1,13 +1,13 @@
 -- `fill_pointwise::step` meets its contract: the labels of the instant decide its label, and the last label of b is then that up to t.
 -- Assumes nothing.
-use borrow.Author.Rules.{rules, sfits_of}
+use borrow.Author.Rules.{rules}
 use mathlib.Core.Path.{◌≡◌, ◌∙◌, ap}
 use mathlib.Core.Option.{Option}
 use mathlib.Core.Bool.{true}
 use lib.IntN.{ℤ, pos, ◌+ℤ◌}
 use mir.Facts.{to_z-of_z}
 use mir.Syntax.{w64}
-use mir.Val.{SFits}
+use mir.Val.{SFits, to_z, of_z}
 use Rattle.integers.proofs.Machine.{plain}
 use Rattle.calendar.specs.Meaning.{Row, meant}
 use Rattle.calendar.specs.Compute.{anchored}
@@ -39,7 +39,8 @@ near : (s : Start) → Near s.args.t
 near s = is-near s.args.t s.requires.scans.low s.requires.scans.high
 
 pub cursor_label-label-requires : goal.cursor_label-label-requires
-cursor_label-label-requires s =
+cursor_label-label-requires c =
+    let s = (goal.at.cursor_label-label-requires c).Start in
     let p = s.ranges.a_period in
     let n = s.ranges.a_distance in
     record { sound = simp plain ((sounds s).0); standing = simp plain ((s.args.t, near s, s.requires.scans.cursors.0)) }
@@ -52,10 +53,14 @@ cursor_label-other-requires c =
     record { sound = simp plain ((sounds s).1); standing = simp plain ((s.args.t, near s, s.requires.scans.cursors.1)) }
 
 pub cursor_next-next-requires : goal.cursor_next-next-requires
-cursor_next-next-requires c = record { sound = (cursor_label-label-requires (goal.at.cursor_next-next-requires c).After-cursor_label-arg-2-1).0; standing = (cursor_label-label-requires (goal.at.cursor_next-next-requires c).After-cursor_label-arg-2-1).1 }
+cursor_next-next-requires c =
+    let x = cursor_label-label-requires (goal.at.cursor_next-next-requires c).After-cursor_label-arg-1 in
+    record { sound = x.sound; standing = x.standing }
 
 pub cursor_next-next-requires-2 : goal.cursor_next-next-requires-2
-cursor_next-next-requires-2 c = record { sound = (cursor_label-other-requires (goal.at.cursor_next-next-requires-2 c).After-cursor_next-arg-1).0; standing = (cursor_label-other-requires (goal.at.cursor_next-next-requires-2 c).After-cursor_next-arg-1).1 }
+cursor_next-next-requires-2 c =
+    let x = cursor_label-other-requires (goal.at.cursor_next-next-requires-2 c).After-cursor_label-arg-2-1 in
+    record { sound = x.sound; standing = x.standing }
 
 -- the labels of the instant, and the cursors of the next
 a-label : (c : After-cursor_label-label) → let s = (goal.at.After-cursor_label-label c).Start in found c.cursor_label-label.result ≡ meant (a-row s) s.args.t
@@ -91,7 +96,7 @@ later-at : (c : After-later) → let s = (goal.at.After-later c).Start in c.late
 later-at c =
     let l = (goal.at.After-later c).After-cursor_label-other in
     let s = (goal.at.After-cursor_label-other l).Start in
-    let f : SFits w64 s.args.s.last = sfits_of c.struct_told-1.given.1.1.0.1 in
+    let f : SFits w64 s.args.s.last = search rules in
     c.later.ensures
     ∙ ap (λ (z : ℤ). later_label z (found l.cursor_label-other.result)) (to_z-of_z f)
     ∙ ap (later_label s.args.s.last) (b-label l)
@@ -106,28 +111,16 @@ returns c =
     let by = s.args.by in
     let z = anchored (b-row s) s.args.t in
     let is_last = later-at e in
-    let f : SFits w64 e.later.result = sfits_of c.struct_told-2-1.given.1.1.0.1 in record { label = ((
-      c.decided.ensures
-          ∙ ap (decided_label by (found l.cursor_label-label.result) (found l.cursor_label-other.result)) (to_z-of_z f ∙ is_last)
+    let f : SFits w64 e.later.result = search rules in record {
+      label = c.decided.ensures
+          ∙ ap (decided_label by (found l.cursor_label-label.result) (found l.cursor_label-other.result)) (ap (λ (y : ℤ). to_z w64 (of_z w64 y)) (to_z-of_z f) ∙ to_z-of_z f ∙ is_last)
           ∙ ap (λ (x : Option ℤ). decided_label by x (found l.cursor_label-other.result) z) (a-label (goal.at.After-cursor_label-other l).After-cursor_label-label)
           ∙ ap (λ (y : Option ℤ). decided_label by (meant (a-row s) s.args.t) y z) (b-label l)
-          ∙ decided-is by (a-row s) (b-row s) s.requires.fillable.ready s.args.t,
-      record {
+          ∙ decided-is by (a-row s) (b-row s) s.requires.fillable.ready s.args.t;
+      next = record {
         low = next_low s.args.t s.requires.scans.low;
         high = next-high s.args.t s.requires.t_bound;
         cursors = (a-next (goal.at.After-cursor_next-next-2 n).After-cursor_next-next, b-next n);
-        keeps = is_last ∙ anchored-next (b-row s) (b-rules s) s.args.t;
-      },
-    )).0; next = ((
-      c.decided.ensures
-          ∙ ap (decided_label by (found l.cursor_label-label.result) (found l.cursor_label-other.result)) (to_z-of_z f ∙ is_last)
-          ∙ ap (λ (x : Option ℤ). decided_label by x (found l.cursor_label-other.result) z) (a-label (goal.at.After-cursor_label-other l).After-cursor_label-label)
-          ∙ ap (λ (y : Option ℤ). decided_label by (meant (a-row s) s.args.t) y z) (b-label l)
-          ∙ decided-is by (a-row s) (b-row s) s.requires.fillable.ready s.args.t,
-      record {
-        low = next_low s.args.t s.requires.scans.low;
-        high = next-high s.args.t s.requires.t_bound;
-        cursors = (a-next (goal.at.After-cursor_next-next-2 n).After-cursor_next-next, b-next n);
-        keeps = is_last ∙ anchored-next (b-row s) (b-rules s) s.args.t;
-      },
-    )).1 }
+        keeps = simp plain (is_last ∙ anchored-next (b-row s) (b-rules s) s.args.t);
+      };
+    }

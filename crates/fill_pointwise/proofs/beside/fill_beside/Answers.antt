@@ -1,11 +1,11 @@
 -- `fill_pointwise::beside::fill_beside` meets its contract. The loop's invariant: the cells of the instants before t are written, and those kept are counted.
 -- Assumes nothing.
-use mathlib.Core.Path.{◌≡◌, refl, sym, ◌∙◌, ap, subst}
+use mathlib.Core.Path.{◌≡◌, refl, sym, ◌∙◌, ap}
 use mathlib.Core.Logic.{⊎_elim}
 use mathlib.Core.Bool.{Bool, true, false, cond}
 use mathlib.Core.List.{List}
 use borrow.Author.Rules.{sfits_of}
-use Prim.Native.Nat.{ℕ, ◌+◌, ◌-◌, ◌≤◌, ◌<◌}
+use Prim.Native.Nat.{ℕ, ◌+◌, ◌≤◌, ◌<◌}
 use native.Mathlib.Omega.{arith}
 use lib.IntN.{ℤ, pos, ◌+ℤ◌}
 use lib.ListN.{length, get_or, set}
@@ -13,7 +13,7 @@ use mir.Facts.{to_z-of_z}
 use mir.Syntax.{w32}
 use mir.Val.{SFits, to_z, of_z}
 use Rattle.integers.proofs.Linear.{ints, ◌∴◌}
-use Rattle.integers.proofs.Machine.{plain, Bits, bits-read}
+use Rattle.integers.proofs.Machine.{plain}
 use Rattle.calendar.specs.Meaning.{label_of, empty}
 use Rattle.calendar.specs.Limits.{pool_limit}
 use Rattle.calendar.specs.Lists.{only}
@@ -26,19 +26,16 @@ use Rattle.fill_pointwise.proofs.beside.fill_beside.Goals as goal
 use Rattle.fill_pointwise.proofs.beside.fill_beside.Goals.{After-kept, At-loop-t, In-loop-t, Start}
 
 -- an instant more, which is kept or not, with the label that follows
-module _ (c : ℤ) (bare shared : Bool) (from at period : ℕ) (old new : List ℤ) (label count t : ℕ)
+module _ (c : ℤ) (bare shared : Bool) (from at period : ℕ) (old new : List ℤ) (label : ℤ) (count t : ℕ)
     (v : Inv c bare shared from at period old new label count t) (here : t < period) (fits : SFits w32 (c +ℤ pos t +ℤ pos 1))
     (b : Bool) (k : b ≡ kept_at bare shared from old t) where
   more : (z : ℤ) (m : ℕ) → z ≡ cell_of (only (c +ℤ pos t) b) → m ≡ cond b (1 + count) count
-      → Inv c bare shared from at period old (set new (at + t) z) (of_z w32 (to_z w32 label +ℤ pos 1)) m (t + 1)
+      → Inv c bare shared from at period old (set new (at + t) z) (to_z w32 (of_z w32 (label +ℤ pos 1))) m (t + 1)
   more z m f g =
       let e : c +ℤ pos t +ℤ pos 1 ≡ c +ℤ pos (t + 1) = simp ints (omega arith) in
       record {
         within = omega arith;
-        next = record {
-          fits = subst (SFits w32) e fits;
-          is = ap (of_z w32) (ap (λ (y : ℤ). y +ℤ pos 1) (bits-read v.next) ∙ e);
-        };
+        next = ap (λ (y : ℤ). to_z w32 (of_z w32 (y +ℤ pos 1))) v.next ∙ to_z-of_z fits ∙ e;
         cells = cells-more c bare shared from at old t new v.cells b k z f;
         counted = count-more c bare shared from at old t new v.cells b k m count v.counted g;
       }
@@ -46,11 +43,10 @@ module _ (c : ℤ) (bare shared : Bool) (from at period : ℕ) (old new : List �
 pub loop-t-init : goal.loop-t-init
 loop-t-init c =
     let z = to_z w32 (of_z w32 c.args.first) in
-    let f = c.ranges.first in
     let e : z ≡ z +ℤ pos 0 = simp ints (omega arith) in
     record {
       within = omega arith;
-      next = record { fits = subst (SFits w32) e (simp plain f); is = ap (of_z w32) (sym (to_z-of_z f) ∙ e) };
+      next = e;
       cells = refl;
       counted = refl;
     }
@@ -113,7 +109,7 @@ bounds-pool-at c = let h = here (goal.at.bounds-pool-at c).In-loop-t in omega ar
 pub overflow_add-label : goal.overflow_add-label
 overflow_add-label c =
     let l = (goal.at.overflow_add-label c).At-loop-t in
-    rw (bits-read l.loop-t.invariant.next) (fits_after (goal.at.At-loop-t l).Start l.loop-t.t c.loop-t-test.true)
+    rw l.loop-t.invariant.next (fits_after (goal.at.At-loop-t l).Start l.loop-t.t c.loop-t-test.true)
 
 pub overflow_add-t : goal.overflow_add-t
 overflow_add-t c = let h = here (goal.at.overflow_add-t c).In-loop-t in omega arith
@@ -143,11 +139,11 @@ loop-t-preserved c =
     let l = (goal.at.In-loop-t i).At-loop-t in
     let a = l.args in
     let t = l.loop-t.t in
-    let go = more (to_z w32 (of_z w32 a.first)) a.bare a.shared a.from a.at a.period a.pool.now l.loop-t.pool l.loop-t.label-bits l.loop-t.count t
+    let go = more (to_z w32 (of_z w32 a.first)) a.bare a.shared a.from a.at a.period a.pool.now l.loop-t.pool (to_z w32 l.loop-t.label-bits) l.loop-t.count t
     l.loop-t.invariant i.loop-t-test.true (fits_after (goal.at.At-loop-t l).Start t i.loop-t-test.true) in
     ⊎_elim
-    (λ w. go true (sym w.0.taken ∙ is-kept (goal.at.loop-t-preserved c).After-kept) _ _ (ap (to_z w32) w.2 ∙ bits-read l.loop-t.invariant.next) (omega (arith, w.1)))
-    (λ w. go false (sym w.0.left ∙ is-kept (goal.at.loop-t-preserved c).After-kept) _ _ (ap (to_z w32) w.2) w.1)
+    (λ w. go true (sym w.if-kept.true ∙ is-kept (goal.at.loop-t-preserved c).After-kept) _ _ (w.cell-is ∙ l.loop-t.invariant.next) (omega (arith, w.count-is)))
+    (λ w. go false (sym w.if-kept.false ∙ is-kept (goal.at.loop-t-preserved c).After-kept) _ _ w.cell-is w.count-is)
     c.if-kept.branch-raw
 
 pub shape_of-pool : goal.shape_of-pool
@@ -160,10 +156,7 @@ returns c =
     let a = s.args in
     let f = s.ranges.first in
     let e : l.loop-t.t ≡ a.period = omega (arith, l.loop-t.invariant.within, c.loop-t-test.false) in
-    let v = simp plain at l.loop-t.invariant in record { cells = ((
-      v.cells ∙ ap (λ (n : ℕ). kept_cells a.first a.bare a.shared a.from a.at n a.pool.now) e,
-      v.counted ∙ ap (λ (n : ℕ). kept_count a.bare a.shared a.from n a.pool.now) e,
-    )).0; count = ((
-      v.cells ∙ ap (λ (n : ℕ). kept_cells a.first a.bare a.shared a.from a.at n a.pool.now) e,
-      v.counted ∙ ap (λ (n : ℕ). kept_count a.bare a.shared a.from n a.pool.now) e,
-    )).1 }
+    let v = simp plain at l.loop-t.invariant in record {
+      cells = v.cells ∙ ap (λ (n : ℕ). kept_cells a.first a.bare a.shared a.from a.at n a.pool.now) e;
+      count = v.counted ∙ ap (λ (n : ℕ). kept_count a.bare a.shared a.from n a.pool.now) e;
+    }

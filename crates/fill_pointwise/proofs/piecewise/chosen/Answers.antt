@@ -1,13 +1,12 @@
 -- `fill_pointwise::piecewise::chosen` meets its contract.
 -- Assumes nothing.
-use borrow.Author.Rules.{rules, sfits_of}
+use borrow.Author.Rules.{sfits_of}
 use mathlib.Core.Path.{◌≡◌, ◌∙◌, ap}
 use mathlib.Core.Logic.{⊎_elim}
 use mathlib.Core.Bool.{Bool, true, false, cond}
 use lib.IntN.{ℤ}
 use mir.Facts.{to_z-of_z}
 use mir.Syntax.{w32}
-use mir.Val.{to_z}
 use Rattle.calendar.specs.Meaning.{is_empty, empty}
 use Rattle.cursors.proofs.Cells.{bits-empty, bits_full}
 use Rattle.fill_pointwise.specs.Pieces.{chosen_cell}
@@ -30,7 +29,7 @@ returns-then-x-eq-EMPTY c =
     let k = (goal.at.returns-then-x-eq-EMPTY c).After-only_if-other in
     let s = (goal.at.After-only_if-other k).Start in
     let a = s.args in
-    to_z-of_z {w = w64} (sfits_of k.only_if-other.type_inv)
+    to_z-of_z {w = w32} (sfits_of k.only_if-other.type_inv)
     ∙ k.only_if-other.ensures
     ∙ ap (λ (z : ℤ). cond a.second z empty) (to_z-of_z s.ranges.y)
     ∙ by-empty a.first a.shared a.second a.x a.y (bits-empty a.x s.ranges.x c.if-x-eq-EMPTY.true)
@@ -44,14 +43,14 @@ returns-else-x-eq-EMPTY c =
     let a = s.args in
     let full = bits_full a.x c.if-x-eq-EMPTY.false in
     ⊎_elim
-    (λ w. ap (to_z w32) w.1
-    ∙ to_z-of_z {w = w64} (sfits_of g.only_if-bare.type_inv)
+    (λ w. w.own-is
+    ∙ to_z-of_z {w = w32} (sfits_of g.only_if-bare.type_inv)
     ∙ g.only_if-bare.ensures
     ∙ ap (λ (z : ℤ). cond a.first z empty) (to_z-of_z s.ranges.x)
-    ∙ by_bare a.first a.shared a.second a.x a.y full (bits-empty a.y s.ranges.y w.0.taken))
-    (λ w. ap (to_z w32) w.1
-    ∙ to_z-of_z {w = w64} (sfits_of h.only_if-both.type_inv)
+    ∙ by_bare a.first a.shared a.second a.x a.y full (bits-empty a.y s.ranges.y w.if-y-eq-EMPTY.true))
+    (λ w. w.own-is
+    ∙ to_z-of_z {w = w32} (sfits_of h.only_if-both.type_inv)
     ∙ h.only_if-both.ensures
     ∙ ap (λ (z : ℤ). cond a.shared z empty) (to_z-of_z s.ranges.x)
-    ∙ by_both a.first a.shared a.second a.x a.y full (bits_full a.y w.0.left))
+    ∙ by_both a.first a.shared a.second a.x a.y full (bits_full a.y w.if-y-eq-EMPTY.false))
     c.if-y-eq-EMPTY.branch-raw

@@ -1,6 +1,5 @@
 -- `fill_pointwise::piecewise::counted` meets its contract.
 -- Assumes nothing.
-use borrow.Author.Rules.{rules}
 use mathlib.Core.Path.{◌≡◌, sym, ◌∙◌, ap}
 use mathlib.Core.Logic.{⊎_elim}
 use mathlib.Core.Option.{Option}
@@ -23,8 +22,8 @@ labelled-is c =
     let s = (goal.at.After-is_outside c).Start in
     let z = s.args.cell in
     ⊎_elim
-    (λ w. w.1 ∙ sym (ap (λ (l : Option ℤ). cond {A = ℕ} (is_some l) 1 0) (label-empty z ((empty-iff z).0 (bits-empty z s.ranges.cell w.0.taken)))))
-    (λ w. w.1 ∙ sym (ap (λ (l : Option ℤ). cond {A = ℕ} (is_some l) 1 0) (label-full z (λ e. w.0.left (ap (of_z w32) e)))))
+    (λ w. w.result-is ∙ sym (ap (λ (l : Option ℤ). cond {A = ℕ} (is_some l) 1 0) (label-empty z ((empty-iff z).0 (bits-empty z s.ranges.cell w.if-cell-eq-EMPTY.true)))))
+    (λ w. w.result-is ∙ sym (ap (λ (l : Option ℤ). cond {A = ℕ} (is_some l) 1 0) (label-full z (λ e. w.if-cell-eq-EMPTY.false (ap (of_z w32) e)))))
     c.if-cell-eq-EMPTY.branch-raw
 
 -- the test of the limits
