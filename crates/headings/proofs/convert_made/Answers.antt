@@ -17,11 +17,7 @@ use Rattle.conversion.specs.Answers.{answered}
 use Rattle.conversion.specs.Left.{Left}
 use Rattle.headings.proofs.Plain.{Asked, asked-all, asked-most, outcome-numbers}
 use Rattle.headings.proofs.convert_made.Goals as goal
-use Rattle.headings.proofs.convert_made.Goals.{After-convert-answer, After-row_known-1}
-
--- the entries that numbers are lent for
-asked : (c : After-row_known-1) → Asked c.args.lent c.if-lent-lt-ENTRY_LIMIT.entries
-asked c = ⊎_elim (λ w. asked-all _ _ w.0.taken w.1) (λ w. asked-most _ _ w.0.left w.1) c.if-lent-lt-ENTRY_LIMIT.branch-raw
+use Rattle.headings.proofs.convert_made.Goals.{then-lent-lt-ENTRY_LIMIT, else-lent-lt-ENTRY_LIMIT}
 
 abbrev plain : List ℕ
 plain = replicate (heading_length * entry_limit) 0
@@ -43,20 +39,16 @@ made t n m p a k e r numbers pool h =
       h.cells ∙ ap (pool_after p) o,
     )
 
-pub overflow_mul-plain : goal.overflow_mul-plain
-overflow_mul-plain c = record { fits = omega (arith, (asked c).few) }
-
-pub slice_bounds-plain-end : goal.slice_bounds-plain-end
-slice_bounds-plain-end c = omega (arith, (asked c).few)
-
-pub slice_bounds-convert-end : goal.slice_bounds-convert-end
-slice_bounds-convert-end c = sym (lent c.if-lent-lt-ENTRY_LIMIT.entries (asked (goal.at.slice_bounds-convert-end c).After-row_known-1).few)
-
 pub returns : goal.returns
 returns c =
-    let b = (goal.at.returns c).After-convert-answer in
-    let k = (goal.at.After-convert-answer b).After-row_known-1 in
-    let x = k.args in
-    made x.table.now x.lent k.if-lent-lt-ENTRY_LIMIT.entries (length x.pool.now) (asked k) _ (lent _ (asked k).few)
-    b.convert-answer.result b.convert-answer.new.headings b.convert-answer.new.pool
-    b.convert-answer.ensures
+    let x = c.args in
+    let m = c.if-lent-lt-ENTRY_LIMIT.entries in
+    -- the entries that numbers are lent for
+    let asked : Asked x.lent m =
+    elim c.if-lent-lt-ENTRY_LIMIT.branch [
+      | then-lent-lt-ENTRY_LIMIT w ↦ asked-all _ _ w.if-lent-lt-ENTRY_LIMIT.true w.entries-is
+      | else-lent-lt-ENTRY_LIMIT w ↦ asked-most _ _ w.if-lent-lt-ENTRY_LIMIT.false w.entries-is
+    ] in
+    made x.table.now x.lent m (length x.pool.now) asked _ (lent _ asked.few)
+    c.convert-answer.result c.convert-answer.new.headings c.convert-answer.new.pool
+    c.convert-answer.ensures
