@@ -8,20 +8,18 @@ use mathlib.Core.List.{List, [], ◌∷◌, ◌++◌, append_assoc, append-nil, 
 use Prim.Native.Nat.{ℕ, zero, suc, ◌+◌, ◌-◌, ◌*◌, ◌≤◌}
 use native.Mathlib.Nat.{min-le_right}
 use native.Mathlib.Omega.{arith}
-use lib.Dec.{eqb}
 use lib.IntN.{ℤ}
 use lib.ListN.{length, take, drop, replicate, length-take, length-drop, length-replicate, take-append-drop}
 use lib.Seq.{take-add, take_at, drop_at, drop-cons, length-take-le}
 use Rattle.calendar.specs.Meaning.{Row, empty}
 use Rattle.calendar.specs.Limits.{heading_length}
-use Rattle.calendar.specs.Lists.{equal}
 use Rattle.calendar.specs.Granules.{granules}
 use Rattle.calendar.specs.Stored.{headings_from, joined}
 use Rattle.granules.proofs.Tests.{and-iff, both_iff, eqb-iff, equal-iff, test-ext}
 use Rattle.granules.proofs.Sound.{sound-valid}
 use Rattle.conversion.specs.Shows.{start_at, period_at, distance_at, granules_at, row_at}
 use Rattle.conversion.proofs.Headings.{headings-length}
-use Rattle.standing.specs.Standing.{rows_at, is_least, all_least, holds, standing}
+use Rattle.standing.specs.Standing.{rows_at, standing}
 use Rattle.standing.specs.Tests.{is_counted, row_stands, end_of, rows_stand, all_zero, all_empty, stands_by}
 use Rattle.standing.proofs.Decides.{rows-length, Least, AllLeast, least_iff, all-least-iff, holds-iff, standing-is}
 

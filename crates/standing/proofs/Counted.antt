@@ -4,7 +4,7 @@ use mathlib.Core.Path.{◌≡◌, refl, sym, ◌∙◌, ap, ap₂}
 use mathlib.Core.Logic.{◌⊎◌, inl, inr}
 use mathlib.Core.List.{List}
 use mathlib.Core.Bool.{Bool, true, false, ◌&&◌}
-use Prim.Native.Nat.{ℕ, ◌+◌, ◌-◌, ◌*◌, ◌≤◌, ◌<◌, min}
+use Prim.Native.Nat.{ℕ, ◌+◌, ◌-◌, ◌≤◌, ◌<◌, min}
 use native.Mathlib.Nat.{min-le_right}
 use native.Mathlib.Omega.{arith}
 use lib.Dec.{eqb}
@@ -15,7 +15,7 @@ use Rattle.calendar.specs.Granules.{granules}
 use Rattle.calendar.specs.Sound.{sound}
 use Rattle.calendar.specs.Least.{least}
 use Rattle.calendar.specs.Questions.{given}
-use Rattle.granules.proofs.Tests.{true-or-false, false-iff, and-iff, both_iff, eqb-iff, test-ext}
+use Rattle.granules.proofs.Tests.{true-or-false, false-iff, and-iff, eqb-iff, test-ext}
 use Rattle.granules.proofs.Sound.{sound-valid}
 use Rattle.conversion.specs.Shows.{start_at, period_at, distance_at, granules_at, row_at}
 use Rattle.standing.specs.Standing.{is_least}

@@ -20,7 +20,7 @@ use Rattle.granules.proofs.Tests.{and-iff, both_iff, eqb-iff, equal-iff}
 use Rattle.granules.proofs.Sound.{sound-valid}
 use Rattle.conversion.specs.Shows.{row_at}
 use Rattle.conversion.proofs.Headings.{Whole, row-left}
-use Rattle.standing.specs.Standing.{alike, rows_at, is_least, all_least, holds, standing, Standing}
+use Rattle.standing.specs.Standing.{rows_at, is_least, all_least, holds, standing, Standing}
 use Rattle.standing.proofs.Alike.{alike-iff}
 
 -- ---- rows by their headings

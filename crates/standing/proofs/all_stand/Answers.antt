@@ -1,15 +1,11 @@
 -- `standing::all_stand` meets its contract: the test by its parts.
 -- Assumes nothing.
-use mathlib.Core.Path.{◌≡◌, refl, sym, ◌∙◌, ap}
-use mathlib.Core.Bool.{true, false}
-use mathlib.Core.List.{List}
+use mathlib.Core.Path.{refl, sym, ◌∙◌, ap}
 use Prim.Native.Nat.{ℕ}
-use borrow.Author.Rules.{rules}
 use borrow.Author.Tests.{not-false}
-use lib.IntN.{ℤ}
 use lib.ListN.{drop}
 use Rattle.granules.proofs.Tests.{not_iff, true≢false}
-use Rattle.standing.specs.Tests.{rows_stand, all_zero, all_empty}
+use Rattle.standing.specs.Tests.{all_empty}
 use Rattle.standing.proofs.ByParts.{rows-fail-all, clear-fails-all, blank-decides}
 use Rattle.standing.proofs.all_stand.Goals as goal
 use Rattle.standing.proofs.all_stand.Goals.{Start}
@@ -36,10 +32,8 @@ returns c =
     let ok = not-false _ c.if-not-rows.false in
     let stand = sym c.rows_stand-rows.ensures.test ∙ ok in
     let ends = c.rows_stand-rows.ensures.ends ok in
-    let clear = sym c.is_clear.ensures ∙ not-false _ c.if-not-is_clear.false-raw in record { test = ((
-      c.is_blank.ensures ∙ ap (λ (i : ℕ). all_empty (drop i a.pool.now)) ends.is-end ∙ sym (blank-decides a.k a.headings.now a.pool.now s.requires.0 stand clear),
-      λ e. ends,
-    )).0; ends = ((
-      c.is_blank.ensures ∙ ap (λ (i : ℕ). all_empty (drop i a.pool.now)) ends.is-end ∙ sym (blank-decides a.k a.headings.now a.pool.now s.requires.0 stand clear),
-      λ e. ends,
-    )).1 }
+    let clear = sym c.is_clear.ensures ∙ not-false _ c.if-not-is_clear.false-raw in
+    record {
+      test = c.is_blank.ensures ∙ ap (λ (i : ℕ). all_empty (drop i a.pool.now)) ends.is-end ∙ sym (blank-decides a.k a.headings.now a.pool.now s.requires.0 stand clear);
+      ends = λ e. ends;
+    }

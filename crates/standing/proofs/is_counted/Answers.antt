@@ -1,15 +1,15 @@
 -- `standing::is_counted` meets its contract.
 -- Assumes nothing.
 use borrow.Author.Tests.{not-false}
-use borrow.Author.Rules.{rules, sfits_of}
-use mathlib.Core.Path.{◌≡◌, refl, sym, ◌∙◌, ap, ap₂}
-use mathlib.Core.Bool.{true, false}
+use borrow.Author.Rules.{sfits_of}
+use mathlib.Core.Path.{◌≡◌, sym, ◌∙◌, ap₂}
+use mathlib.Core.Bool.{true}
 use Prim.Native.Nat.{ℕ}
 use lib.Dec.{eqb}
 use lib.IntN.{ℤ, pos}
 use mir.Facts.{to_z-of_z}
 use mir.Syntax.{w64}
-use mir.Val.{of_z, to_z}
+use mir.Val.{of_z}
 use Rattle.integers.specs.Parts.{up}
 use Rattle.integers.proofs.Machine.{plain}
 use Rattle.integers.proofs.Order.{pos-up}
@@ -19,7 +19,7 @@ use Rattle.calendar.specs.Sound.{sound}
 use Rattle.calendar.specs.Least.{least}
 use Rattle.calendar.specs.Questions.{given}
 use Rattle.granules.proofs.Tests.{not_iff, false-iff, eqb-iff}
-use Rattle.cursors.proofs.Numbers.{Numbers, numbers}
+use Rattle.cursors.proofs.Numbers.{numbers}
 use Rattle.standing.proofs.Counted.{not_sound, other-count, least-decides}
 use Rattle.standing.proofs.is_counted.Goals as goal
 use Rattle.standing.proofs.is_counted.Goals.{After-granules-counted, After-least_period-least, After-sound, Else-not-sound, Start}

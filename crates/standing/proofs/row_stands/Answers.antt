@@ -1,22 +1,13 @@
 -- `standing::row_stands` meets its contract.
 -- Assumes nothing.
-use mathlib.Core.Path.{◌≡◌, refl, sym, ◌∙◌}
-use Prim.Native.Nat.{ℕ, ◌+◌, ◌*◌, ◌^◌, ◌<◌}
+use mathlib.Core.Path.{refl, ◌∙◌}
+use Prim.Native.Nat.{◌+◌, ◌*◌}
 use native.Mathlib.Omega.{arith}
-use lib.IntN.{pos}
-use mir.Syntax.{w32, w64}
-use mir.Val.{Fits, SFits, to_z}
-use mir.ValLaws.{to_z_pos}
 use Rattle.integers.proofs.Linear.{ints}
-use Rattle.integers.proofs.Machine.{plain}
 use Rattle.granules.proofs.Tests.{true≢false}
 use Rattle.calendar.specs.Limits.{heading_length}
 use Rattle.row_entry.proofs.Numbers.{wide-number}
 use Rattle.standing.proofs.Counted.{starts-elsewhere, stands_here, stands-outside}
-use borrow.Author.Rules.{rules}
-use Rattle.standing.proofs.row_stands.Reads as reads
-use Rattle.standing.proofs.row_stands.Lts as lts
-use Rattle.standing.proofs.is_counted.Reads as is-counted-reads
 use Rattle.standing.proofs.row_stands.Goals as goal
 use Rattle.standing.proofs.row_stands.Goals.{Start}
 
@@ -48,10 +39,8 @@ returns c =
     let starts = c.if-start-used.false in
     let r = (wide-number _ (c.shared_slice_known-6-1.given (heading_length * a.k + 3))).1 in
     let n = (wide-number _ (c.shared_slice_known-5-1.given (heading_length * a.k + 2))).1 in
-    let p = (wide-number _ (c.shared_slice_known-4-1.given (heading_length * a.k + 1))).1 in record { test = ((
-      (rw (p, n, r) at c.is_counted-ok.ensures) ∙ stands_here a.headings.now a.pool.now a.k a.used starts,
-      λ e. record { is-end = refl; fits = omega (arith, c.if-count-pool.false, s.requires.used_in_bounds.0) },
-    )).0; ends = ((
-      (rw (p, n, r) at c.is_counted-ok.ensures) ∙ stands_here a.headings.now a.pool.now a.k a.used starts,
-      λ e. record { is-end = refl; fits = omega (arith, c.if-count-pool.false, s.requires.used_in_bounds.0) },
-    )).1 }
+    let p = (wide-number _ (c.shared_slice_known-4-1.given (heading_length * a.k + 1))).1 in
+    record {
+      test = (rw (p, n, r) at c.is_counted-ok.ensures) ∙ stands_here a.headings.now a.pool.now a.k a.used starts;
+      ends = λ e. record { is-end = refl; fits = omega (arith, c.if-count-pool.false, s.requires.used_in_bounds.0) };
+    }

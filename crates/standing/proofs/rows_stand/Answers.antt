@@ -1,19 +1,14 @@
 -- `standing::rows_stand` meets its contract. The loop's invariant: the first i rows stand, up to the cell `used`.
 -- Assumes nothing.
 use mathlib.Core.Path.{◌≡◌, refl, sym, ◌∙◌, ap, subst}
-use mathlib.Core.Bool.{true, false}
-use mathlib.Core.List.{List}
-use Prim.Native.Nat.{ℕ, suc, ◌+◌, ◌-◌, ◌≤◌}
+use mathlib.Core.Bool.{true}
+use Prim.Native.Nat.{ℕ, suc, ◌+◌}
 use native.Mathlib.Omega.{arith}
-use borrow.Author.Rules.{rules}
 use borrow.Author.Tests.{not-false}
-use lib.IntN.{ℤ}
-use lib.ListN.{length}
 use Rattle.granules.proofs.Tests.{not_iff, true≢false}
 use Rattle.conversion.specs.Shows.{period_at}
-use Rattle.standing.specs.Tests.{row_stands, end_of, rows_stand, EndsAt}
+use Rattle.standing.specs.Tests.{end_of, rows_stand, EndsAt}
 use Rattle.standing.proofs.Rows.{rows_none, rows_more, rows-fail}
-use Rattle.standing.proofs.rows_stand.Invariants.{Inv}
 use Rattle.standing.proofs.rows_stand.Goals as goal
 use Rattle.standing.proofs.rows_stand.Goals.{Start}
 

@@ -1,18 +1,11 @@
 -- `standing::rows_stand` meets its contract. The loop's invariant: the first i rows stand, up to the cell `used`.
 -- Assumes nothing.
-use mathlib.Core.Path.{◌≡◌, refl, sym, ◌∙◌, ap, subst}
-use mathlib.Core.Bool.{true, false}
+use mathlib.Core.Path.{◌≡◌}
+use mathlib.Core.Bool.{true}
 use mathlib.Core.List.{List}
-use Prim.Native.Nat.{ℕ, suc, ◌+◌, ◌-◌, ◌≤◌}
-use native.Mathlib.Omega.{arith}
-use borrow.Author.Rules.{rules}
-use borrow.Author.Tests.{not-false}
+use Prim.Native.Nat.{ℕ, ◌-◌, ◌≤◌}
 use lib.IntN.{ℤ}
-use lib.ListN.{length}
-use Rattle.granules.proofs.Tests.{not_iff, true≢false}
-use Rattle.conversion.specs.Shows.{period_at}
-use Rattle.standing.specs.Tests.{row_stands, end_of, rows_stand, EndsAt}
-use Rattle.standing.proofs.Rows.{rows_none, rows_more, rows-fail}
+use Rattle.standing.specs.Tests.{rows_stand, EndsAt}
 use Rattle.standing.proofs.rows_stand.Given as goal
 
 pub record Inv (headings : List ℕ) (pool : List ℤ) (k used i : ℕ) : Type 0 where
@@ -25,4 +18,3 @@ invariant-loop-i l = Inv l.headings l.pool l.k l.used l.i
 
 abbrev pub decreases-loop-i : goal.decreases-loop-i
 decreases-loop-i l = l.k - l.i
-
