@@ -51,17 +51,17 @@ pub overflow_add-result : goal.overflow_add-result
 overflow_add-result c = sum c.v-1.given.0.0 c.v-1.given.0.1.0 (omega arith) (omega arith)
 
 pub overflow_sub-result : goal.overflow_sub-result
-overflow_sub-result c = difference c.v-in-Wrong-1.given.0.0 (omega arith)
+overflow_sub-result c = difference c.in-Wrong.entry (omega arith)
 
 pub returns-in-Accepted : goal.returns-in-Accepted
-returns-in-Accepted c = sym (ap verdict_code c.enum_told-1.given.1)
+returns-in-Accepted c = sym (ap verdict_code c.in-Accepted.is)
 
 pub returns-in-Refused : goal.returns-in-Refused
 returns-in-Refused c =
     let k = (goal.at.returns-in-Refused c).In-Refused-2 in
-    code k.v-1.given.0.0 k.v-1.given.0.1.0 (omega arith) (omega arith) ∙ sym (ap verdict_code k.v-1.given.1)
+    code k.v-1.given.0.0 k.v-1.given.0.1.0 (omega arith) (omega arith) ∙ sym (ap verdict_code k.in-Refused.is)
 
 pub returns-in-Wrong : goal.returns-in-Wrong
 returns-in-Wrong c =
     let k = (goal.at.returns-in-Wrong c).In-Wrong-2 in
-    below k.v-in-Wrong-1.given.0.0 (omega arith) ∙ sym (ap verdict_code k.v-in-Wrong-1.given.1)
+    below k.in-Wrong.entry (omega arith) ∙ sym (ap verdict_code k.in-Wrong.is)

@@ -17,14 +17,14 @@ returns-in-Refused c =
     let k = (goal.at.returns-in-Refused c).In-Refused-2 in
     let b = (goal.at.In-Refused-2 k).After-begin-begun in
     let a = b.args in
-    rw c.number.ensures (check-refused a.table.now a.headings.now a.pool.now _ (sym b.begin-begun.ensures ∙ ap begun_reply k.begun-1.given.1))
+    rw c.number.ensures (check-refused a.table.now a.headings.now a.pool.now _ (sym b.begin-begun.ensures ∙ ap begun_reply k.in-Refused.is))
 
 abbrev count : In-Entries → ℕ
-count c = c.begun-in-Entries-1.given.0.0
+count c = c.in-Entries.n
 
 passes : (c : In-Entries) → let a = c.args in
     admitted a.table.now (length a.headings.now / heading_length) (length a.pool.now) ≡ answer (count c)
-passes c = sym c.begin-begun.ensures ∙ ap begun_reply c.begun-in-Entries-1.given.1
+passes c = sym c.begin-begun.ensures ∙ ap begun_reply c.in-Entries.is
 
 pub check_entries-requires : goal.check_entries-requires
 check_entries-requires c =

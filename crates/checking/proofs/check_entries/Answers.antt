@@ -57,8 +57,8 @@ returns-in-Refused c =
     let e = refusing c in
     let l = at-loop e in
     rw c.number.ensures
-    (entry-refused _ _ _ _ _ _ (begun l).pre l.loop-k.invariant e.loop-k-test.taken c.judged-1.given.0.0
-    (subst (Says e) c.judged-1.given.1 (says e)))
+    (entry-refused _ _ _ _ _ _ (begun l).pre l.loop-k.invariant e.loop-k-test.taken c.in-Refused.refusal
+    (subst (Says e) c.in-Refused.is (says e)))
 
 -- ---- its heading or its row is wrong
 pub overflow_cast-result-in-Wrong : goal.overflow_cast-result-in-Wrong
@@ -68,7 +68,7 @@ pub returns-in-Wrong : goal.returns-in-Wrong
 returns-in-Wrong c =
     let e = (goal.at.returns-in-Wrong c).After-check_entry-judged in
     let l = at-loop e in
-    entry-wrong _ _ _ _ _ _ (begun l).pre l.loop-k.invariant e.loop-k-test.true (subst (Says e) c.enum_told-1.given.1 (says e))
+    entry-wrong _ _ _ _ _ _ (begun l).pre l.loop-k.invariant e.loop-k-test.true (subst (Says e) c.in-Wrong.is (says e))
 
 -- ---- it is right
 abbrev passing : In-Right → After-entry
@@ -84,7 +84,7 @@ pub loop-k-preserved : goal.loop-k-preserved
 loop-k-preserved c =
     let e = passing c in
     let l = at-loop e in
-    entry-right _ _ _ _ _ _ (begun l).pre l.loop-k.invariant e.loop-k-test.taken _ (subst (Says e) c.judged-in-Right-1.given.1 (says e))
+    entry-right _ _ _ _ _ _ (begun l).pre l.loop-k.invariant e.loop-k-test.taken _ (subst (Says e) c.in-Right.is (says e))
 
 -- ---- all are
 pub rest_is_empty-requires : goal.rest_is_empty-requires

@@ -36,7 +36,7 @@ returns-in-Refused c =
     let k = (goal.at.returns-in-Refused c).In-Refused in
     let b = (goal.at.In-Refused k).After-begin-begun in
     rw c.number.ensures
-    (outcome-refused (start b).args.table.now (width b) (room b) _ (numbers b) _ (sym (begins b) ∙ ap begun_reply k.begun-1.given.1)
+    (outcome-refused (start b).args.table.now (width b) (room b) _ (numbers b) _ (sym (begins b) ∙ ap begun_reply k.in-Refused.is)
     (record { numbers = (clearing b).clear-headings.ensures; cells = c.clear_cells.ensures }))
 
 -- ---- the entries
@@ -44,10 +44,10 @@ abbrev beginning : In-Entries → After-begin-begun
 beginning c = (goal.at.In-Entries c).After-begin-begun
 
 abbrev count : In-Entries → ℕ
-count c = c.begun-in-Entries-1.given.0.0
+count c = c.in-Entries.n
 
 passes : (c : In-Entries) → let b = beginning c in admitted (start b).args.table.now (width b / heading_length) (room b) ≡ answer (count c)
-passes c = sym (begins (beginning c)) ∙ ap begun_reply c.begun-in-Entries-1.given.1
+passes c = sym (begins (beginning c)) ∙ ap begun_reply c.in-Entries.is
 
 pub convert_entries-requires : goal.convert_entries-requires
 convert_entries-requires c =

@@ -19,7 +19,7 @@ enter_named-requires c =
     let p = (goal.at.enter_named-requires c).In-Named-2 in
     let r = (goal.at.In-Named-2 p).After-read-reading in
     let s = (goal.at.After-read-reading r).Start in
-    let n = subst (Says r) p.reading-in-Named-1.given.1 r.read-reading.ensures in
+    let n = subst (Says r) p.in-Named.is r.read-reading.ensures in
     record {
       rows = s.requires.rows;
       names = (n.0, n.2);
@@ -33,12 +33,12 @@ returns-in-Refused c =
     let s = (goal.at.After-read-reading r).Start in
     let a = s.args in record { lengths = ((
       (search rules, search rules),
-      λ l many t. refused-named a.table.now a.k a.used l a.headings.now a.pool.now _ c.reading-1.given.0.0 many t r.entry_at-e.ensures
-          (subst (Says r) c.reading-1.given.1 r.read-reading.ensures),
+      λ l many t. refused-named a.table.now a.k a.used l a.headings.now a.pool.now _ c.in-Refused.refusal many t r.entry_at-e.ensures
+          (subst (Says r) c.in-Refused.is r.read-reading.ensures),
     )).0; entered = ((
       (search rules, search rules),
-      λ l many t. refused-named a.table.now a.k a.used l a.headings.now a.pool.now _ c.reading-1.given.0.0 many t r.entry_at-e.ensures
-          (subst (Says r) c.reading-1.given.1 r.read-reading.ensures),
+      λ l many t. refused-named a.table.now a.k a.used l a.headings.now a.pool.now _ c.in-Refused.refusal many t r.entry_at-e.ensures
+          (subst (Says r) c.in-Refused.is r.read-reading.ensures),
     )).1 }
 
 pub shape_of-headings : goal.shape_of-headings
@@ -54,7 +54,7 @@ returns-in-Named c =
     let r = (goal.at.In-Named-2 p).After-read-reading in
     let s = (goal.at.After-read-reading r).Start in
     let a = s.args in
-    let x = subst (Says r) p.reading-in-Named-1.given.1 r.read-reading.ensures in record { lengths = ((
+    let x = subst (Says r) p.in-Named.is r.read-reading.ensures in record { lengths = ((
       (shape_of-headings c, shape_of-pool c),
       λ l many t. entered a.table.now a.k a.used l a.headings.now _ a.pool.now _ _ x.0 n.enter_named.result many t s.requires.has-heading s.requires.at-most
           r.entry_at-e.ensures x.1 (shape_of-pool c) (n.enter_named.ensures.became l x.0 many t x.2),

@@ -17,7 +17,7 @@ opening c = (goal.at.In-Body c).After-open-opened
 
 found : (c : In-Body)
     → opened_in (opening c).before.before.args.book.now ≡ Body c.opened-1.given.0.0 c.opened-1.given.0.1.0
-found c = sym (opening c).open.ensures ∙ c.opened-1.given.1
+found c = sym (opening c).open.ensures ∙ c.in-Body.is
 
 small : (c : In-Body) → c.opened-1.given.0.1.0 < 2 ^ 63
 small c = omega (arith, (opened-fits _ (found c)).1)
@@ -30,5 +30,5 @@ returns-in-Body c = record { code = number-back _ (small c) ∙ ap last_code (sy
 
 pub returns-in-Empty : goal.returns-in-Empty
 returns-in-Empty c =
-    let e = sym c.enum_told-1.given.1 ∙ c.open-opened.ensures in
+    let e = sym c.in-Empty.is ∙ c.open-opened.ensures in
     record { code = ap last_code e; start = ap last_start e }

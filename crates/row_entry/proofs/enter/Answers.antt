@@ -114,14 +114,14 @@ pub write-requires : goal.write-requires
 write-requires c =
     let p = (goal.at.write-requires c).In-Passed-2 in
     let k = (goal.at.In-Passed-2 p).After-check_in-checked in
-    record { enterable = k.requires; used_value = sym (checks k) ∙ ap checked_reply p.checked-in-Passed-1.given.1 }
+    record { enterable = k.requires; used_value = sym (checks k) ∙ ap checked_reply p.in-Passed.is }
 
 pub returns-in-Refused : goal.returns-in-Refused
 returns-in-Refused c =
     let k = (goal.at.returns-in-Refused c).After-check_in-checked in record { lengths = ((
       (search rules, search rules),
-      (refused-before _ _ _ (sym (checks k) ∙ ap checked_reply c.checked-1.given.1), record { numbers = refl; cells = refl }),
+      (refused-before _ _ _ (sym (checks k) ∙ ap checked_reply c.in-Refused.is), record { numbers = refl; cells = refl }),
     )).0; became = ((
       (search rules, search rules),
-      (refused-before _ _ _ (sym (checks k) ∙ ap checked_reply c.checked-1.given.1), record { numbers = refl; cells = refl }),
+      (refused-before _ _ _ (sym (checks k) ∙ ap checked_reply c.in-Refused.is), record { numbers = refl; cells = refl }),
     )).1 }

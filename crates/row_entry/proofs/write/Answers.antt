@@ -55,14 +55,14 @@ returns-in-Unlabelled c =
       (search rules, l.fill-filled.ensures.lengths),
       (
         none-labelled _ _ _ (passed a.kind a.extent a.a a.b a.k a.used a.headings.now a.pool.now s.requires.enterable s.requires.used_value (fits s))
-            _ l.fill-filled.ensures.answer c.enum_told-1.given.1,
+            _ l.fill-filled.ensures.answer c.in-Unlabelled.is,
         record { numbers = refl; cells = l.fill-filled.ensures.before },
       ),
     )).0; became = ((
       (search rules, l.fill-filled.ensures.lengths),
       (
         none-labelled _ _ _ (passed a.kind a.extent a.a a.b a.k a.used a.headings.now a.pool.now s.requires.enterable s.requires.used_value (fits s))
-            _ l.fill-filled.ensures.answer c.enum_told-1.given.1,
+            _ l.fill-filled.ensures.answer c.in-Unlabelled.is,
         record { numbers = refl; cells = l.fill-filled.ensures.before },
       ),
     )).1 }
@@ -75,14 +75,14 @@ returns-in-OutOfRange c =
       (search rules, l.fill-filled.ensures.lengths),
       (
         out_of_range _ _ _ (passed a.kind a.extent a.a a.b a.k a.used a.headings.now a.pool.now s.requires.enterable s.requires.used_value (fits s))
-            _ l.fill-filled.ensures.answer c.enum_told-in-OutOfRange-1.given.1,
+            _ l.fill-filled.ensures.answer c.in-OutOfRange.is,
         record { numbers = refl; cells = l.fill-filled.ensures.before },
       ),
     )).0; became = ((
       (search rules, l.fill-filled.ensures.lengths),
       (
         out_of_range _ _ _ (passed a.kind a.extent a.a a.b a.k a.used a.headings.now a.pool.now s.requires.enterable s.requires.used_value (fits s))
-            _ l.fill-filled.ensures.answer c.enum_told-in-OutOfRange-1.given.1,
+            _ l.fill-filled.ensures.answer c.in-OutOfRange.is,
         record { numbers = refl; cells = l.fill-filled.ensures.before },
       ),
     )).1 }

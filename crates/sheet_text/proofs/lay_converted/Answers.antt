@@ -32,7 +32,7 @@ pub returns-in-Refused : goal.returns-in-Refused
 returns-in-Refused c =
     let w = (goal.at.returns-in-Refused c).After-write_refusal in
     let m = (goal.at.After-write_refusal w).In-Refused-2 in
-    relay (printed-refusal _ _ _ _ _ _ _ (says (goal.at.In-Refused-2 m).After-convert-converted _ m.converted-1.given.1))
+    relay (printed-refusal _ _ _ _ _ _ _ (says (goal.at.In-Refused-2 m).After-convert-converted _ m.in-Refused.is))
     (w.write_refusal.ensures [] _ (laid_none _))
 
 pub returns-in-Converted : goal.returns-in-Converted

@@ -30,8 +30,8 @@ abbrev reading : In-Table → After-read_table-reading
 reading k = (goal.at.In-Table k).After-read_table-reading
 
 -- the table that was read stands in the array
-read : (k : In-Table) → k.reading-in-Table-1.given.0.0 ≤ length (reading k).read_table.new.1.0
-read k = (sheet-table table_length _ _ _ (reading k).read_table.auto.1.0 (says (reading k) _ k.reading-in-Table-1.given.1)).0
+read : (k : In-Table) → k.in-Table.n ≤ length (reading k).read_table.new.1.0
+read k = (sheet-table table_length _ _ _ (reading k).read_table.auto.1.0 (says (reading k) _ k.in-Table.is)).0
 
 pub slice_bounds-table-end : goal.slice_bounds-table-end
 slice_bounds-table-end c = read c
@@ -44,13 +44,13 @@ returns-in-Bad c =
     let w = (goal.at.returns-in-Bad c).After-write_refusal in
     let n = (goal.at.After-write_refusal w).After-number in
     let m = (goal.at.After-number n).In-Bad-2 in
-    let is-19 = ap (λ (k : ℕ). refusal_line k m.reading-1.given.0.0) n.number.ensures in
-    relay (is-19 ∙ sheet-bad table_length _ _ _ (says (goal.at.In-Bad-2 m).After-read_table-reading _ m.reading-1.given.1))
+    let is-19 = ap (λ (k : ℕ). refusal_line k m.in-Bad.line) n.number.ensures in
+    relay (is-19 ∙ sheet-bad table_length _ _ _ (says (goal.at.In-Bad-2 m).After-read_table-reading _ m.in-Bad.is))
     (w.write_refusal.ensures [] _ (laid_none _))
 
 pub returns-in-Table : goal.returns-in-Table
 returns-in-Table c =
     let w = (goal.at.returns-in-Table c).After-lay_table in
     let k = (goal.at.After-lay_table w).In-Table in
-    relay (sheet-table table_length _ _ _ (reading k).read_table.auto.1.0 (says (reading k) _ k.reading-in-Table-1.given.1)).1
+    relay (sheet-table table_length _ _ _ (reading k).read_table.auto.1.0 (says (reading k) _ k.in-Table.is)).1
     w.lay_table.ensures

@@ -27,8 +27,8 @@ same c =
     λ i. record { table = c.if-table-lengths.false i; headings = h i; pool = p i }
 
 passed : (c : In-Entries) → let a = (start (goal.at.In-Entries c).Else-pool-lengths).args in
-    W.admits a.table.now a.headings.now a.pool.now ≡ answer c.begun-1.given.0.0
-passed c = sym c.begin-begun.ensures ∙ ap begun_reply c.begun-1.given.1
+    W.admits a.table.now a.headings.now a.pool.now ≡ answer c.in-Entries.n
+passed c = sym c.begin-begun.ensures ∙ ap begun_reply c.in-Entries.is
 
 pub returns-then-table-lengths : goal.returns-then-table-lengths
 returns-then-table-lengths c =
@@ -52,10 +52,10 @@ pub returns-in_default : goal.returns-in_default
 returns-in_default c =
     let b = (goal.at.returns-in_default c).After-begin-begun in
     let a = (start (goal.at.After-begin-begun b).Else-pool-lengths).args in record { test = ((
-      sym (not-admitted _ a.k a.table.now a.headings.now a.pool.now _ (sym b.begin-begun.ensures ∙ ap begun_reply c.enum_told-1.given.1)),
+      sym (not-admitted _ a.k a.table.now a.headings.now a.pool.now _ (sym b.begin-begun.ensures ∙ ap begun_reply c.in_default.is)),
       λ e. absurd (true≢false e refl),
     )).0; ends = ((
-      sym (not-admitted _ a.k a.table.now a.headings.now a.pool.now _ (sym b.begin-begun.ensures ∙ ap begun_reply c.enum_told-1.given.1)),
+      sym (not-admitted _ a.k a.table.now a.headings.now a.pool.now _ (sym b.begin-begun.ensures ∙ ap begun_reply c.in_default.is)),
       λ e. absurd (true≢false e refl),
     )).1 }
 

@@ -16,7 +16,7 @@ returns-in-Refused c =
     let a = b.args in
     rw c.number.ensures
     (start-refused a.table.now a.headings.now a.pool.now _ refl _ _ l.clear.ensures _
-    (sym b.begin-begun.ensures ∙ ap begun_reply c.begun-1.given.1))
+    (sym b.begin-begun.ensures ∙ ap begun_reply c.in-Refused.is))
 
 pub returns-in-Entries : goal.returns-in-Entries
 returns-in-Entries c =
@@ -24,4 +24,4 @@ returns-in-Entries c =
     let b = (goal.at.After-clear l).After-begin-begun in
     let a = b.args in
     start-begun a.table.now a.headings.now a.pool.now _ refl _ _ l.clear.ensures _
-    (sym b.begin-begun.ensures ∙ ap begun_reply c.enum_told-1.given.1)
+    (sym b.begin-begun.ensures ∙ ap begun_reply c.in-Entries.is)

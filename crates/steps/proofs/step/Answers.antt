@@ -25,15 +25,15 @@ returns-in-Due c =
     let d = (goal.at.returns-in-Due c).After-take_due in
     let k = (goal.at.After-take_due d).In-Due in
     let a = k.args in
-    let e = call-due (walk_of a.walk) _ (ap progress_of k.progress-1.given.1) a.table.now a.headings.now a.pool.now in
+    let e = call-due (walk_of a.walk) _ (ap progress_of k.in-Due.is) a.table.now a.headings.now a.pool.now in
     subst (λ (s : W.Left). Gives s d.take_due.result d.take_due.new.headings d.take_due.new.pool) (sym e) d.take_due.ensures
 
 pub returns-in-Done : goal.returns-in-Done
 returns-in-Done c =
     let a = c.args in
-    stays a.walk a.table.now a.headings.now a.pool.now (inl (ap progress_of c.enum_told-1.given.1))
+    stays a.walk a.table.now a.headings.now a.pool.now (inl (ap progress_of c.in-Done.is))
 
 pub returns-in-Refused : goal.returns-in-Refused
 returns-in-Refused c =
     let a = c.args in
-    stays a.walk a.table.now a.headings.now a.pool.now (inr (_, _, ap progress_of c.enum_told-in-Refused-1.given.1))
+    stays a.walk a.table.now a.headings.now a.pool.now (inr (_, _, ap progress_of c.in-Refused.is))

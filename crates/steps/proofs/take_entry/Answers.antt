@@ -52,7 +52,7 @@ pub clear_cells-requires : goal.clear_cells-requires
 clear_cells-requires c =
     let k = (goal.at.clear_cells-requires c).In-Ends in
     let e = taking k in
-    (subst (Says e) k.entry-in-Ends-1.given.1 (says e)).2.fits
+    (subst (Says e) k.in-Ends.is (says e)).2.fits
 
 pub progress_behind-requires : goal.progress_behind-requires
 progress_behind-requires c =

@@ -16,10 +16,10 @@ pub overflow_add-result : goal.overflow_add-result
 overflow_add-result c = sum c.progress-1.given.0.0 c.progress-1.given.0.1.0 (omega arith) (omega arith)
 
 pub returns-in-Due : goal.returns-in-Due
-returns-in-Due c = sym (ap (λ (x : Progress). progress_code (progress_of x)) c.enum_told-1.given.1)
+returns-in-Due c = sym (ap (λ (x : Progress). progress_code (progress_of x)) c.in-Due.is)
 
 pub returns-in-Done : goal.returns-in-Done
-returns-in-Done c = sym (ap (λ (x : Progress). progress_code (progress_of x)) c.enum_told-in-Done-1.given.1)
+returns-in-Done c = sym (ap (λ (x : Progress). progress_code (progress_of x)) c.in-Done.is)
 
 pub returns-in-Refused : goal.returns-in-Refused
 returns-in-Refused c =

@@ -21,7 +21,7 @@ returns-in-Due c =
     back g.0.0 (omega arith) ∙ sym (ap (λ (x : Progress). number (progress_of x)) g.1)
 
 pub returns-in-Done : goal.returns-in-Done
-returns-in-Done c = sym (ap (λ (x : Progress). number (progress_of x)) c.enum_told-1.given.1)
+returns-in-Done c = sym (ap (λ (x : Progress). number (progress_of x)) c.in-Done.is)
 
 pub returns-in-Refused : goal.returns-in-Refused
 returns-in-Refused c =

@@ -48,4 +48,4 @@ returns-in-At c =
 pub returns-in-Nowhere : goal.returns-in-Nowhere
 returns-in-Nowhere c =
     let p = (goal.at.returns-in-Nowhere c).After-progress_in-staged in
-    held_none (start (goal.at.After-progress_in-staged p).After-natural-5).args.state.now (eight (goal.at.After-progress_in-staged p).After-natural-5).if1.false (sym (ap staged_as c.enum_told-1.given.1) ∙ staged p)
+    held_none (start (goal.at.After-progress_in-staged p).After-natural-5).args.state.now (eight (goal.at.After-progress_in-staged p).After-natural-5).if1.false (sym (ap staged_as c.in-Nowhere.is) ∙ staged p)

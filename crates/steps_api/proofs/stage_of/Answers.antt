@@ -9,10 +9,10 @@ use borrow.Author.Rules.{rules}
 use Rattle.steps_api.proofs.stage_of.Goals as goal
 
 pub returns-in-Due : goal.returns-in-Due
-returns-in-Due c = sym (ap (λ (x : Progress). stage (progress_of x)) c.enum_told-1.given.1)
+returns-in-Due c = sym (ap (λ (x : Progress). stage (progress_of x)) c.in-Due.is)
 
 pub returns-in-Done : goal.returns-in-Done
-returns-in-Done c = sym (ap (λ (x : Progress). stage (progress_of x)) c.enum_told-in-Done-1.given.1)
+returns-in-Done c = sym (ap (λ (x : Progress). stage (progress_of x)) c.in-Done.is)
 
 pub returns-in-Refused : goal.returns-in-Refused
-returns-in-Refused c = sym (ap (λ (x : Progress). stage (progress_of x)) c.enum_told-in-Refused-1.given.1)
+returns-in-Refused c = sym (ap (λ (x : Progress). stage (progress_of x)) c.in-Refused.is)

@@ -17,7 +17,7 @@ pub write_progress-requires : goal.write_progress-requires
 write_progress-requires c =
     let k = (goal.at.write_progress-requires c).In-Is in
     let r = (goal.at.In-Is k).After-read-held in
-    walk-eight r.args.state.now _ (sym r.read-held.ensures ∙ ap held_as k.held-1.given.1)
+    walk-eight r.args.state.now _ (sym r.read-held.ensures ∙ ap held_as k.in-Is.is)
 
 pub returns-in-Is : goal.returns-in-Is
 returns-in-Is c =
@@ -27,11 +27,11 @@ returns-in-Is c =
     let r = (goal.at.In-Is k).After-read-held in
     let a = r.args in
     told-step a.headings.now a.pool.now a.state.now a.table.now d.step-next.result _ _ _ _ (to_z-of_z {w = w64} (sfits_of c.code.type_inv) ∙ c.code.ensures)
-    k.held-1.given.0.0 (sym (ap held_as k.held-1.given.1) ∙ r.read-held.ensures) d.step-next.ensures w.write_progress.ensures
+    k.in-Is.walk (sym (ap held_as k.in-Is.is) ∙ r.read-held.ensures) d.step-next.ensures w.write_progress.ensures
 
 pub returns-in-Nothing : goal.returns-in-Nothing
 returns-in-Nothing c =
     let r = (goal.at.returns-in-Nothing c).After-read-held in
     let a = r.args in
     told-nothing a.headings.now a.pool.now a.state.now _
-    (ap (λ (x : Option W.Walk). called_in x a.state.now a.table.now a.headings.now a.pool.now) (sym (ap held_as c.enum_told-1.given.1) ∙ r.read-held.ensures))
+    (ap (λ (x : Option W.Walk). called_in x a.state.now a.table.now a.headings.now a.pool.now) (sym (ap held_as c.in-Nothing.is) ∙ r.read-held.ensures))

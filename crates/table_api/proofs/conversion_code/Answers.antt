@@ -43,7 +43,7 @@ overflow_add-result c = sum c.c-1.given.0.0 c.c-1.given.0.1.0 (omega arith) (ome
 pub returns-in-Refused : goal.returns-in-Refused
 returns-in-Refused c =
     let k = (goal.at.returns-in-Refused c).In-Refused-2 in
-    code k.c-1.given.0.0 k.c-1.given.0.1.0 (omega arith) (omega arith) ∙ sym (ap conversion_code k.c-1.given.1)
+    code k.c-1.given.0.0 k.c-1.given.0.1.0 (omega arith) (omega arith) ∙ sym (ap conversion_code k.in-Refused.is)
 
 pub returns-in-Converted : goal.returns-in-Converted
-returns-in-Converted c = sym (ap conversion_code c.enum_told-1.given.1)
+returns-in-Converted c = sym (ap conversion_code c.in-Converted.is)

@@ -15,20 +15,20 @@ abbrev writing : In-Bytes → After-sheet-written
 writing k = (goal.at.In-Bytes k).After-sheet-written
 
 -- the count is below half of the numbers of 64 bits
-small : (k : In-Bytes) → k.written-1.given.0.0 < 2 ^ 63
+small : (k : In-Bytes) → k.in-Bytes.n < 2 ^ 63
 small k =
     let w = writing k in
-    omega (arith, taken-fit w.sheet-written.ensures k.written-1.given.1, w.good)
+    omega (arith, taken-fit w.sheet-written.ensures k.in-Bytes.is, w.good)
 
 pub overflow_cast-result : goal.overflow_cast-result
-overflow_cast-result c = count_fits c.written-1.given.0.0 (small c)
+overflow_cast-result c = count_fits c.in-Bytes.n (small c)
 
 pub returns-in-Bytes : goal.returns-in-Bytes
 returns-in-Bytes c =
     let w = (writing c).sheet in
-    (w.result, count-back c.written-1.given.0.0 (small c) ∙ ap sheet_code (sym c.written-1.given.1), w.ensures)
+    (w.result, count-back c.in-Bytes.n (small c) ∙ ap sheet_code (sym c.in-Bytes.is), w.ensures)
 
 pub returns-in-TooShort : goal.returns-in-TooShort
 returns-in-TooShort c =
     let w = c.sheet-written in
-    (w.result, ap sheet_code (sym c.enum_told-1.given.1), w.ensures)
+    (w.result, ap sheet_code (sym c.in-TooShort.is), w.ensures)

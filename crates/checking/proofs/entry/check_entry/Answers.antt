@@ -26,7 +26,7 @@ check_named-requires c =
     let p = (goal.at.check_named-requires c).In-Named-2 in
     let r = (goal.at.In-Named-2 p).After-read-reading in
     let s = (goal.at.After-read-reading r).Start in
-    let n = subst (Says r) p.reading-in-Named-1.given.1 r.read-reading.ensures in
+    let n = subst (Says r) p.in-Named.is r.read-reading.ensures in
     record {
       rows = s.requires.rows;
       names = (n.0, n.2);
@@ -42,7 +42,7 @@ returns-in-Refused c =
     λ l many t.
     read-judged l a.k (length a.pool.now - a.used) a.table.now (entry_of r.entry_at-e.result) many r.entry_at-e.ensures
     ∙ ap (λ (x : Reply (Operation ℕ)). and_then x (λ o. converted (at_rows l o) (length a.pool.now - a.used)))
-    (subst (Says r) c.reading-1.given.1 r.read-reading.ensures)
+    (subst (Says r) c.in-Refused.is r.read-reading.ensures)
 
 pub returns-in-Named : goal.returns-in-Named
 returns-in-Named c =
@@ -50,7 +50,7 @@ returns-in-Named c =
     let r = (goal.at.In-Named-2 p).After-read-reading in
     let s = (goal.at.After-read-reading r).Start in
     let a = s.args in
-    let n = subst (Says r) p.reading-in-Named-1.given.1 r.read-reading.ensures in
+    let n = subst (Says r) p.in-Named.is r.read-reading.ensures in
     λ l many t.
     let e =
     read-judged l a.k (length a.pool.now - a.used) a.table.now (entry_of r.entry_at-e.result) many r.entry_at-e.ensures

@@ -182,7 +182,7 @@ returns-in-Refused c =
     let b = (goal.at.After-check_in-checked t).After-operand_before-b in
     let s = start b in
     let a = s.args in
-    let refused = refused-before _ _ (number_of c.checked-1.given.0.0) (sym (checks t) ∙ ap checked_reply c.checked-1.given.1) in
+    let refused = refused-before _ _ (number_of c.in-Refused.n) (sym (checks t) ∙ ap checked_reply c.in-Refused.is) in
     λ l o many behind names.
     let same = J.over-rows l a.k a.headings.now a.pool.now a.used many behind s.pre.has-heading s.pre.at-most a.named o names
     b.operand_before-a.result b.operand_before-b.result b.operand_before-a.ensures b.operand_before-b.ensures in
@@ -193,7 +193,7 @@ abbrev told : In-Passed → After-check_in-checked
 told c = (goal.at.In-Passed c).After-check_in-checked
 
 abbrev extent : In-Passed → Extent
-extent c = c.checked-in-Passed-1.given.0.0
+extent c = c.in-Passed.extent
 
 fits : (c : In-Passed) → ExtentFits (extent c)
 fits c = search rules
@@ -201,7 +201,7 @@ fits c = search rules
 admits : (c : In-Passed) → let a = (start (told c).before).args in
     admission (over a.named.kind a.pool.now (told c).before.before.operand-before.result (told c).before.operand-before2.result) (length a.pool.now - a.used)
     ≡ answer (extent c)
-admits c = sym (checks (told c)) ∙ ap checked_reply c.checked-in-Passed-1.given.1
+admits c = sym (checks (told c)) ∙ ap checked_reply c.in-Passed.is
 
 pub claim_of-claim-requires : goal.claim_of-claim-requires
 claim_of-claim-requires c =

@@ -16,7 +16,7 @@ searching c = (goal.at.In-At c).After-last_trailer-found
 
 found : (c : In-At) → let book = (searching c).before.before.args.book.now in
     last_in book 0 (length book) ≡ At c.found-1.given.0.0 c.found-1.given.0.1.0
-found c = sym (searching c).last-trailer.ensures ∙ c.found-1.given.1
+found c = sym (searching c).last-trailer.ensures ∙ c.in-At.is
 
 pub overflow_sub-result : goal.overflow_sub-result
 overflow_sub-result c = let f = last_found _ _ _ (found c) in omega (arith, f.0.within, f.1)
@@ -27,4 +27,4 @@ returns-in-At c = sym (ap placed (found c))
 
 pub returns-in-Nothing : goal.returns-in-Nothing
 unfolding opened_in
-returns-in-Nothing c = sym (ap placed (sym c.last_trailer-found.ensures ∙ c.enum_told-1.given.1))
+returns-in-Nothing c = sym (ap placed (sym c.last_trailer-found.ensures ∙ c.in-Nothing.is))

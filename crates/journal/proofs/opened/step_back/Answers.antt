@@ -21,7 +21,7 @@ start c = (searching c).before.before
 
 found : (c : In-At) → let w = (start c).args.window.now in
     last_in w (start c).args.base (length w) ≡ At c.found-1.given.0.0 c.found-1.given.0.1.0
-found c = sym (searching c).last-trailer.ensures ∙ c.found-1.given.1
+found c = sym (searching c).last-trailer.ensures ∙ c.in-At.is
 
 empty-step : (base : ℕ) → base ≡ 0 → Empty ≡ stepped base Nothing
 empty-step base e = ap (λ (b : ℕ). stepped b Nothing) (sym e)
@@ -43,7 +43,7 @@ unfolding step_in
 returns-then-base-eq0 c =
     let s = (goal.at.returns-then-base-eq0 c).After-last_trailer-found in
     empty-step s.args.base c.if-base-eq0.true
-    ∙ sym (ap (stepped s.args.base) (sym s.last_trailer-found.ensures ∙ c.enum_told-1.given.1))
+    ∙ sym (ap (stepped s.args.base) (sym s.last_trailer-found.ensures ∙ c.in-Nothing.is))
 
 pub returns-in-At : goal.returns-in-At
 unfolding step_in
@@ -54,4 +54,4 @@ unfolding step_in
 returns-else-base-eq0 c =
     let s = (goal.at.returns-else-base-eq0 c).After-last_trailer-found in
     before-step s.args.base c.if-base-eq0.false
-    ∙ sym (ap (stepped s.args.base) (sym s.last_trailer-found.ensures ∙ c.enum_told-1.given.1))
+    ∙ sym (ap (stepped s.args.base) (sym s.last_trailer-found.ensures ∙ c.in-Nothing.is))
