@@ -6,7 +6,7 @@ use native.Mathlib.Omega.{arith}
 use lib.IntN.{ℤ, pos, negsuc}
 use lib.Signed.{◌≤ℤ◌}
 use mir.Syntax.{w64}
-use mir.Val.{of_z}
+use mir.Val.{of_z, to_z}
 use Rattle.integers.specs.Parts.{up}
 use Rattle.kinds.specs.declared.Operand.{Operand}
 use Rattle.kinds.specs.Stands.{end}
@@ -21,8 +21,8 @@ period-bits a e h x = bits a.period h ∙ omega (arith, x)
     bits (negsuc n) h = absurd h.le
 
 -- the row as it is lent by its cells alone
-abbrev pub lent_from : ℕ → ℕ → ℕ → Lent
-lent_from s e n = lent_as s e (e - s) n
+abbrev pub lent_from : ℕ → ℕ → ℤ → Lent
+lent_from s e n = lent_as s e (to_z w64 (e - s)) n
 
-pub lent-from : (a : Operand) (e : ℕ) → pos 0 ≤ℤ a.period → e ≡ end a → lent_of a e ≡ lent_from a.start e (of_z w64 a.distance)
-lent-from a e h x = ap (λ (p : ℕ). lent_as a.start e p (of_z w64 a.distance)) (period-bits a e h x)
+pub lent-from : (a : Operand) (e : ℕ) → pos 0 ≤ℤ a.period → e ≡ end a → lent_of a e ≡ lent_from a.start e (to_z w64 (of_z w64 a.distance))
+lent-from a e h x = ap (λ (p : ℕ). lent_as a.start e (to_z w64 p) (to_z w64 (of_z w64 a.distance))) (period-bits a e h x)

@@ -6,7 +6,7 @@ use mathlib.Core.Path.{◌≡◌, refl, sym, ◌∙◌, ap}
 use mathlib.Core.Option.{some}
 use mathlib.Core.Bool.{true, false}
 use mathlib.Core.List.{List}
-use Prim.Native.Nat.{◌-◌, ◌^◌, ◌≤◌, ◌<◌}
+use Prim.Native.Nat.{◌^◌, ◌≤◌, ◌<◌}
 use native.Mathlib.Omega.{arith}
 use lib.IntN.{ℤ, pos}
 use lib.ListN.{length}
@@ -28,14 +28,23 @@ use Rattle.fill_shared.specs.Placed.{Fills}
 use Rattle.fill_shared.proofs.Cells.{lent_is}
 use Rattle.fill_shared.proofs.Points.{label_small}
 use Rattle.fill_shared.proofs.Working.{range-fits}
-use Rattle.fill_shared.proofs.Filling.{Lent, Filling, lent_as, lent_of, row_of, first_one, fills_one, filling-length, rows-kept, rows-stood, filling-out}
+use Rattle.fill_shared.proofs.Filling.{Lent, Filling, lent_of, row_of, first_one, fills_one, filling-length, rows-kept, rows-stood, filling-out}
 use Rattle.fill_stretches.specs.Stretch.{Follows, Stretched}
 use Rattle.fill_stretches.proofs.Stages.{room-a}
 use Rattle.fill_unary.proofs.Ends.{labelled-done}
 use Rattle.fill_unary.proofs.Along.{Grouping, GroupOf, grouping-led, group-label, group-on, grouping-next}
-use Rattle.fill_unary.proofs.grouping.fill_along.Invariants.{Told, entry, old}
 use Rattle.fill_unary.proofs.grouping.fill_along.Goals as goal
 use Rattle.fill_unary.proofs.grouping.fill_along.Goals.{After-fill_leading-reached, After-fill_stretch-reached, After-group_of-group, After-in_range, After-label_of-j, After-struct_told-2-1, At-loop-reached, Else-not-in_range, In-loop-reached, Start}
+
+-- ---- the row that is lent, as it stood before the loop
+abbrev Told : Type 0
+Told = After-struct_told-2-1
+
+abbrev entry : Told → Start
+entry c = (goal.at.After-struct_told-2-1 c).Start
+
+abbrev old : Told → List ℤ
+old c = (entry c).args.pool.now
 
 -- the labels of a group, as the machine has them
 abbrev X : Told → ℤ
@@ -45,7 +54,7 @@ abbrev A : Told → Lent
 A c = lent_of (entry c).args.a c.end_of-end.result
 
 pub end_of-end-requires : goal.end_of-end-requires
-end_of-end-requires c = record { pos_bound = c.requires.placed.a_period; a_bound = c.requires.placed.a-end }
+end_of-end-requires c = record { pos_bound = c.requires.placed.a-period; a_bound = c.requires.placed.a-end }
 
 a-is : (c : Told) → row_of (A c) (old c) ≡ row_in (old c) (entry c).args.a
 a-is c = lent_is (entry c).args.a _ _ c.end_of-end.ensures (sfits_of c.struct_told-1.given.1.0.1) (sfits_of c.struct_told-2-1.given.1.1.0.1)
@@ -97,30 +106,30 @@ base l = (goal.at.At-loop-reached l).After-struct_told-2-1
 
 -- what holds before the turn, over a pool in which the row stood
 abbrev Holds : At → List ℤ → Type 0
-Holds l x = let k = base l in let s = entry k in Grouping (X k) (A k) s.args.at s.args.period x l.loop-reached.pool-1 l.loop-reached.reached
+Holds l x = let k = base l in let s = entry k in Grouping (X k) (A k) s.args.at s.args.period x l.loop-reached.pool l.loop-reached.reached
 
 holds : (l : At) → Holds l (old (base l))
 holds l = l.loop-reached.invariant (old (base l)) (started (goal.at.At-loop-reached l).After-fill_leading-reached)
 
-same : (l : At) → length l.loop-reached.pool-1 ≡ length (old (base l))
+same : (l : At) → length l.loop-reached.pool ≡ length (old (base l))
 same l = filling-length _ _ _ _ _ _ _ _ _ (holds l).stage.filling
 
-at_part : (l : At) → let k = A (base l) in (k.start ≤ k.end) × (k.end ≤ length l.loop-reached.pool-1) × (k.end ≤ pool_limit)
-at_part l = part (base l) l.loop-reached.pool-1 (same l)
+at_part : (l : At) → let k = A (base l) in (k.start ≤ k.end) × (k.end ≤ length l.loop-reached.pool) × (k.end ≤ pool_limit)
+at_part l = part (base l) l.loop-reached.pool (same l)
 
 -- the instant is before the last one
-inside : (c : In) → (at_of c).loop.reached.t < (entry (base (at_of c))).args.period
+inside : (c : In) → (at_of c).loop-reached.reached.t < (entry (base (at_of c))).args.period
 inside c = c.loop-reached-test.true
 
-few : (c : In) → (at_of c).loop.reached.t < pool_limit
+few : (c : In) → (at_of c).loop-reached.reached.t < pool_limit
 few c = let l = (holds (at_of c)).stage.filling.lends in omega (arith, inside c, l.room, l.few)
 
 module _ (l : At) (x : List ℤ) (h : Holds l x) where
   -- what holds of the row as it stood holds of it as it stands, and back
-  kept : (P : Row → Type 0) → P (row_of (A (base l)) x) → P (row_of (A (base l)) l.loop-reached.pool-1)
+  kept : (P : Row → Type 0) → P (row_of (A (base l)) x) → P (row_of (A (base l)) l.loop-reached.pool)
   kept P p = rows-kept _ _ _ _ _ _ _ _ _ h.stage.filling (λ y z. P y) p
 
-  stood : (P : Row → Type 0) → P (row_of (A (base l)) l.loop-reached.pool-1) → P (row_of (A (base l)) x)
+  stood : (P : Row → Type 0) → P (row_of (A (base l)) l.loop-reached.pool) → P (row_of (A (base l)) x)
   stood P p = rows-stood _ _ _ _ _ _ _ _ _ h.stage.filling (λ y z. P y) p
 
 pub offset_bounds-pool-start : goal.offset_bounds-pool-start
@@ -142,7 +151,8 @@ label_of-j-requires c =
     let k = base l in
     let h = holds l in
     let n = few i in
-    record { sound = (kept l (old k) h (λ y. (sound y ≡ true) × Shown y l.loop-reached.reached.cursor) (a-sound k, (pos l.loop-reached.reached.t, simp ints (omega arith), h.stage.follows.cursor, h.stage.stops (inside i)))).0; shown = (kept l (old k) h (λ y. (sound y ≡ true) × Shown y l.loop-reached.reached.cursor) (a-sound k, (pos l.loop-reached.reached.t, simp ints (omega arith), h.stage.follows.cursor, h.stage.stops (inside i)))).1 }
+    let r = kept l (old k) h (λ y. (sound y ≡ true) × Shown y l.loop-reached.reached.cursor) (a-sound k, (pos l.loop-reached.reached.t, simp ints (omega arith), h.stage.follows.cursor, h.stage.stops (inside i))) in
+    record { sound = r.0; shown = r.1 }
 
 abbrev Read : Type 0
 Read = After-label_of-j
@@ -186,7 +196,7 @@ abbrev at-known : Known → At
 at-known c = read_at (goal.at.After-group_of-group c).After-label_of-j
 
 known_of : (c : Known) → GroupOf (X (base (at-known c))) (label (goal.at.After-group_of-group c).After-label_of-j) c.group_of-group.result
-known_of c = let j = label-fits (goal.at.After-group_of-group c).After-label_of-j in simp plain at c.group_of-group.ensures
+known_of c = let j = label-fits (goal.at.After-group_of-group c).After-label_of-j in let e = simp plain at c.group_of-group.ensures in (e.of, (e.all, e.has))
 
 range-is : (c : After-in_range) → c.in_range.result ≡ in_range c.group_of-group.result.number
 range-is c =
@@ -215,13 +225,13 @@ In-limits = Else-not-in_range
 abbrev group-in : In-limits → Known
 group-in c = (goal.at.Else-not-in_range c).After-group_of-group
 
-within : (c : In-limits) → in_range (group-in c).group_of.result.number ≡ true
+within : (c : In-limits) → in_range (group-in c).group_of-group.result.number ≡ true
 within c = sym (range-is (goal.at.Else-not-in_range c).After-in_range) ∙ not-false _ c.if-not-in_range.false-raw
 
-number_fits : (c : In-limits) → SFits w32 (group-in c).group_of.result.number
+number_fits : (c : In-limits) → SFits w32 (group-in c).group_of-group.result.number
 number_fits c = range-fits _ (within c)
 
-number-fits-64 : (c : In-limits) → SFits w64 (group-in c).group_of.result.number
+number-fits-64 : (c : In-limits) → SFits w64 (group-in c).group_of-group.result.number
 number-fits-64 c = sfits_of c.struct_told-in-loop-reached-1.given.0.1
 
 pub overflow_cast-group : goal.overflow_cast-group
@@ -251,20 +261,20 @@ stretch-at c = at-known (group_at_lem c)
 abbrev filled-pool : Stretch → List ℤ
 filled-pool c = c.fill_stretch-reached.new.pool
 
-stretched : (c : Stretch) (x : List ℤ) → let g = (group_at_lem c).group_of.result in let l = stretch-at c in let s = entry (base l) in Holds l x
-    → Stretched g.number g.high (row_of (A (base l)) x) s.args.at s.args.period l.loop-reached.pool-1 l.loop-reached.reached c.fill_stretch-reached.result (filled-pool c)
+stretched : (c : Stretch) (x : List ℤ) → let g = (group_at_lem c).group_of-group.result in let l = stretch-at c in let s = entry (base l) in Holds l x
+    → Stretched g.number g.high (row_of (A (base l)) x) s.args.at s.args.period l.loop-reached.pool l.loop-reached.reached c.fill_stretch-reached.result (filled-pool c)
 stretched c x h =
-    let g = (group_at_lem c).group_of.result in
+    let g = (group_at_lem c).group_of-group.result in
     let l = stretch-at c in
     let s = entry (base l) in
     let n = number_fits (limits_of c) in
     let m = number-fits-64 (limits_of c) in
     let i : SFits w64 g.high = sfits_of c.struct_told-in-loop-reached-3-1.given.1.1.0.1 in
-    stood l x h (λ y. Stretched g.number g.high y s.args.at s.args.period l.loop-reached.pool-1 l.loop-reached.reached c.fill_stretch-reached.result (filled-pool c))
+    stood l x h (λ y. Stretched g.number g.high y s.args.at s.args.period l.loop-reached.pool l.loop-reached.reached c.fill_stretch-reached.result (filled-pool c))
     (simp plain at c.fill_stretch-reached.ensures)
 
 -- it has an instant
-goes_on : (c : Stretch) → (stretch-at c).loop.reached.t < c.fill_stretch-reached.result.t
+goes_on : (c : Stretch) → (stretch-at c).loop-reached.reached.t < c.fill_stretch-reached.result.t
 goes_on c =
     let g = group_at_lem c in
     let l = stretch-at c in

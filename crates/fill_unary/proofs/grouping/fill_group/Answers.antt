@@ -1,6 +1,5 @@
 -- `fill_unary::grouping::fill_group` meets its contract: both ways do.
 -- Assumes nothing.
-use borrow.Author.Rules.{rules}
 use Rattle.integers.proofs.Machine.{plain}
 use Rattle.fill_unary.proofs.grouping.fill_group.Goals as goal
 

@@ -3,7 +3,7 @@
 use borrow.Author.Rules.{sfits_of}
 use borrow.Author.Tests.{not-true, not-false}
 use mathlib.Core.Path.{◌≡◌, refl, sym, ◌∙◌, ap, subst}
-use mathlib.Core.Bool.{Bool, true, false}
+use mathlib.Core.Bool.{true, false}
 use mathlib.Core.List.{List}
 use Prim.Native.Nat.{◌+◌, ◌-◌, ◌≤◌, ◌<◌}
 use native.Mathlib.Omega.{arith}
@@ -14,7 +14,6 @@ use mir.Syntax.{w64}
 use mir.Val.{SFits, to_z, of_z}
 use Rattle.integers.proofs.Linear.{ints, ◌∴◌}
 use Rattle.integers.proofs.Machine.{plain}
-use Rattle.calendar.specs.Compute.{result}
 use Rattle.calendar.specs.Limits.{in_range, pool_limit}
 use Rattle.calendar.specs.Sound.{sound}
 use Rattle.cursors.specs.Found.{Near}
@@ -26,8 +25,7 @@ use Rattle.fill_shared.proofs.Cells.{lent_is}
 use Rattle.fill_shared.proofs.Points.{is-near}
 use Rattle.fill_shared.specs.Placed.{Fills}
 use Rattle.fill_shared.proofs.Filling.{Lent, Filling, lent_of, row_of, first_one, fills_one, filling-length, filling-below}
-use Rattle.fill_shared.proofs.Cursors.{Cell, first_cell, cell-bounds, cell-next}
-use Rattle.fill_unary.specs.Grouped.{Knows}
+use Rattle.fill_shared.proofs.Cursors.{first_cell, cell-bounds, cell-next}
 use Rattle.fill_unary.proofs.Lent.{lent_from, lent-from}
 use Rattle.fill_unary.proofs.Ends.{labelled-done}
 use Rattle.fill_unary.proofs.Turned.{has-turn, turn_small, turn-outside, turned}
@@ -51,10 +49,10 @@ end_of-end-requires c = record { pos_bound = c.requires.placed.a-period; a_bound
 
 -- ---- the row that is lent
 abbrev lent : Begun → Lent
-lent c = lent_from (entry c).args.a.start c.end_of-end.result (of_z w64 (entry c).args.a.distance)
+lent c = lent_from (entry c).args.a.start c.end_of-end.result (to_z w64 (of_z w64 (entry c).args.a.distance))
 
 lent-as : (c : Begun) → lent_of (entry c).args.a c.end_of-end.result ≡ lent c
-lent-as c = lent-from (entry c).args.a _ (entry c).requires.1.a-period c.end_of-end.ensures
+lent-as c = lent-from (entry c).args.a _ (entry c).requires.placed.a-period c.end_of-end.ensures
 
 a-is : (c : Begun) → let s = entry c in row_of (lent_of s.args.a c.end_of-end.result) s.args.pool.now ≡ row_in s.args.pool.now s.args.a
 a-is c = lent_is (entry c).args.a _ _ c.end_of-end.ensures (sfits_of c.struct_told-1.given.1.0.1) (sfits_of c.struct_told-1.given.1.1.0.1)
@@ -91,7 +89,7 @@ room : (c : In-loop) → let l = (goal.at.In-loop-t c).At-loop-t in l.loop-t.t +
 room c = let l = (goal.at.In-loop-t c).At-loop-t in has-turn _ (lent (goal.at.At-loop-t l).After-struct_told-1) _ _ _ _ _ _ _ l.loop-t.invariant.0.1 l.loop-t.invariant.1 c.loop-t-test.true
 
 index : (c : In-loop) → let l = (goal.at.In-loop-t c).At-loop-t in let a = lent (goal.at.At-loop-t l).After-struct_told-1 in let s = entry (goal.at.At-loop-t l).After-struct_told-1 in
-    (a.start + (a.end - a.start) ≤ s.args.at + l.loop-t.t) × (s.args.at + l.loop-t.t + (a.end - a.start) ≤ length l.loop-t.pool-1) × (length l.loop-t.pool-1 ≤ pool_limit)
+    (a.start + (a.end - a.start) ≤ s.args.at + l.loop-t.t) × (s.args.at + l.loop-t.t + (a.end - a.start) ≤ length l.loop-t.pool) × (length l.loop-t.pool ≤ pool_limit)
 index c =
     let h = c.loop-t.invariant.0.1 in
     let e = filling-length _ _ _ _ _ _ _ _ _ h in
@@ -118,7 +116,7 @@ fill_turn-known-requires c =
     let i = (goal.at.fill_turn-known-requires c).In-loop-t in
     let l = (goal.at.In-loop-t i).At-loop-t in
     let h = l.loop-t.invariant.0.1 in
-    record { pos_bound = ((h.lends.is-fillable.numbers, (l.loop-t.invariant.2, (index i, turn_small _ (lent (goal.at.At-loop-t l).After-struct_told-1) _ _ _ _ _ _ _ h l.loop-t.invariant.1 (room i))))).0; knows = ((h.lends.is-fillable.numbers, (l.loop-t.invariant.2, (index i, turn_small _ (lent (goal.at.At-loop-t l).After-struct_told-1) _ _ _ _ _ _ _ h l.loop-t.invariant.1 (room i))))).1; count_bound = ((h.lends.is-fillable.numbers, (l.loop-t.invariant.2, (index i, turn_small _ (lent (goal.at.At-loop-t l).After-struct_told-1) _ _ _ _ _ _ _ h l.loop-t.invariant.1 (room i))))).2; small = ((h.lends.is-fillable.numbers, (l.loop-t.invariant.2, (index i, turn_small _ (lent (goal.at.At-loop-t l).After-struct_told-1) _ _ _ _ _ _ _ h l.loop-t.invariant.1 (room i))))).3 }
+    record { pos_bound = h.lends.is-fillable.numbers; knows = l.loop-t.invariant.2; count_bound = index i; small = turn_small _ (lent (goal.at.At-loop-t l).After-struct_told-1) _ _ _ _ _ _ _ h l.loop-t.invariant.1 (room i) }
 
 range-is : (c : After-in_range) → c.in_range.result ≡ in_range c.fill_turn-known.result.number
 range-is c =

@@ -1,6 +1,6 @@
 -- `fill_unary::grouping::group_of` meets its contract: the labels between two multiples of x have one quotient, rounded up.
 -- Assumes nothing.
-use borrow.Author.Rules.{rules, sfits_of}
+use borrow.Author.Rules.{sfits_of}
 use mathlib.Core.Path.{◌≡◌}
 use mir.Syntax.{w64}
 use mir.Val.{SFits}
@@ -56,4 +56,4 @@ returns c =
     let l = (whole c).less-fits in
     let m = (whole c).low_fits in
     let has = group-has c.args.x c.args.j c.ceil_div-number.result c.requires.pos_bound.0 (number_is c) in
-    record { of = (simp plain (number_is c, ((whole c).same, has))).0; all = (simp plain (number_is c, ((whole c).same, has))).1; has = (simp plain (number_is c, ((whole c).same, has))).2 }
+    record { of = simp plain (number_is c); all = simp plain (whole c).same; has = simp plain has }

@@ -1,10 +1,9 @@
 -- `fill_unary::renumbering::labels_below` meets its contract: the loop keeps the greatest label so far and how many labels were passed.
 -- Assumes nothing.
-use mathlib.Core.Path.{◌≡◌, sym, ◌∙◌, ap, subst, subst₂}
-use mathlib.Core.Logic.{⊎_elim}
+use mathlib.Core.Path.{◌≡◌, sym, ◌∙◌, subst, subst₂}
 use mathlib.Core.Bool.{true, false}
 use mathlib.Core.List.{List}
-use Prim.Native.Nat.{ℕ, ◌+◌, ◌-◌, ◌≤◌, ◌<◌, ◌^◌}
+use Prim.Native.Nat.{ℕ, ◌+◌, ◌<◌, ◌^◌}
 use native.Mathlib.Omega.{arith}
 use borrow.Author.Rules.{sfits_of}
 use lib.IntN.{ℤ, pos, ◌+ℤ◌, ◌-ℤ◌}
@@ -20,10 +19,17 @@ use Rattle.calendar.specs.Compute.{count}
 use Rattle.calendar.specs.Questions.{given}
 use Rattle.cursors.proofs.Cells.{get_d_any}
 use Rattle.fill_unary.proofs.Passed.{Over, Passed, passed_none, passed-all, passed-enough, passed-more, passed-same}
-use Rattle.fill_unary.proofs.renumbering.labels_below.Invariants.{Inv, Start, cells}
+use Rattle.fill_unary.proofs.renumbering.labels_below.Invariants.{Inv}
 use Rattle.fill_unary.proofs.renumbering.labels_below.Goals as goal
-use Rattle.fill_unary.proofs.renumbering.labels_below.Goals.{After-z-1, At-loop-i, Else-z-x, Start as Start-place}
+use Rattle.fill_unary.proofs.renumbering.labels_below.Goals.{After-z-1, At-loop-i, Else-z-x, Start as Start-place, then-z-label, else-z-label}
 
+abbrev Start : Type 0
+Start = Start-place
+
+abbrev cells : Start → List ℤ
+cells c = c.args.a_cells.now
+
+-- the numbers as the machine has them
 abbrev X : Start → ℤ
 X c = to_z w64 (of_z w64 c.args.x)
 
@@ -96,14 +102,14 @@ returns-then-z-x c =
     counted k (passed-enough (over s) k.loop-i.invariant.passed (here z) h)
 
 -- a turn at a new label
-more : (c : Else-z-x) (label labels : ℕ) → let k = (goal.at.Else-z-x c).At-loop-i in let s = (goal.at.At-loop-i k).Start in
-    lt_z (to_z w64 k.loop-i.label-bits) (wide (goal.at.Else-z-x c).After-z-1) ≡ true → label ≡ of_z w64 (to_z w32 (of_z w32 (cell (goal.at.Else-z-x c).After-z-1))) → labels ≡ k.loop-i.labels + 1
+more : (c : Else-z-x) (label : ℤ) (labels : ℕ) → let k = (goal.at.Else-z-x c).At-loop-i in let s = (goal.at.At-loop-i k).Start in
+    lt_z (to_z w64 k.loop-i.label-bits) (wide (goal.at.Else-z-x c).After-z-1) ≡ true → label ≡ wide (goal.at.Else-z-x c).After-z-1 → labels ≡ k.loop-i.labels + 1
     → Inv (X s) (L s) (cells s) (P s) (N s) label labels (k.loop-i.i + 1)
 more c label labels t e n =
     let z = (goal.at.Else-z-x c).After-z-1 in
     let k = (goal.at.After-z-1 z).At-loop-i in
     let s = (goal.at.At-loop-i k).Start in
-    let w : to_z w64 label ≡ get_or (cells s) k.loop-i.i empty = ap (to_z w64) e ∙ wide_is z in
+    let w : label ≡ get_or (cells s) k.loop-i.i empty = e ∙ wide_is z in
     let h = subst (λ (y : ℤ). to_z w64 k.loop-i.label-bits <ℤ y) (wide_is z) ((test-lt (to_z w64 k.loop-i.label-bits) (wide z)).0 t) in
     let b = subst (λ (y : ℤ). y <ℤ X s) (wide_is z) ((test-not-le (X s) (wide z)).0 c.if-z-x.false) in
     record {
@@ -113,8 +119,8 @@ more c label labels t e n =
     }
 
 -- a turn at the same label, or at none
-same : (c : Else-z-x) (label labels : ℕ) → let k = (goal.at.Else-z-x c).At-loop-i in let s = (goal.at.At-loop-i k).Start in
-    lt_z (to_z w64 k.loop-i.label-bits) (wide (goal.at.Else-z-x c).After-z-1) ≡ false → label ≡ k.loop-i.label-bits → labels ≡ k.loop-i.labels
+same : (c : Else-z-x) (label : ℤ) (labels : ℕ) → let k = (goal.at.Else-z-x c).At-loop-i in let s = (goal.at.At-loop-i k).Start in
+    lt_z (to_z w64 k.loop-i.label-bits) (wide (goal.at.Else-z-x c).After-z-1) ≡ false → label ≡ to_z w64 k.loop-i.label-bits → labels ≡ k.loop-i.labels
     → Inv (X s) (L s) (cells s) (P s) (N s) label labels (k.loop-i.i + 1)
 same c label labels t e n =
     let z = (goal.at.Else-z-x c).After-z-1 in
@@ -124,15 +130,13 @@ same c label labels t e n =
     record {
       within = omega (arith, here z);
       few = omega (arith, k.loop-i.invariant.few);
-      passed = subst₂ (λ (b m : ℕ). Passed (given (P s) (N s) (cells s)) (L s) (X s) (to_z w64 b) m (k.loop-i.i + 1)) (sym e) (sym n) (passed-same (over s) k.loop-i.invariant.passed (here z) h);
+      passed = subst₂ (λ (b : ℤ) (m : ℕ). Passed (given (P s) (N s) (cells s)) (L s) (X s) b m (k.loop-i.i + 1)) (sym e) (sym n) (passed-same (over s) k.loop-i.invariant.passed (here z) h);
     }
 
 pub loop-i-preserved : goal.loop-i-preserved
 loop-i-preserved c =
-    ⊎_elim
-    (λ w. more (goal.at.loop-i-preserved c).Else-z-x c.if-z-label.label-bits c.if-z-label.labels w.0.taken w.1 w.2)
-    (λ w. same (goal.at.loop-i-preserved c).Else-z-x c.if-z-label.label-bits c.if-z-label.labels w.0.left w.1 w.2)
-    c.if-z-label.branch-raw
+    let e = (goal.at.loop-i-preserved c).Else-z-x in
+    elim c.if-z-label.branch [ then-z-label w ↦ more e _ _ w.if-z-label.true w.label-is w.labels-is | else-z-label w ↦ same e _ _ w.if-z-label.false w.label-is w.labels-is ]
 
 pub overflow_cast-result-2 : goal.overflow_cast-result-2
 overflow_cast-result-2 c = few-labels (goal.at.overflow_cast-result-2 c).At-loop-i ∴ simp ints (omega arith)

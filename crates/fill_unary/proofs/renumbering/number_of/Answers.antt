@@ -70,7 +70,7 @@ labels_below-rest-requires c =
     let p = s.ranges.a_period in
     let d = s.ranges.a_distance in
     let o = over (asked s) in
-    record { sound = (rw (rest_read c) (simp plain (o.sound, (o.is_last, (o.low, o.high))))).0; last_value = (rw (rest_read c) (simp plain (o.sound, (o.is_last, (o.low, o.high))))).1; last_lt_x = (rw (rest_read c) (simp plain (o.sound, (o.is_last, (o.low, o.high))))).2 }
+    record { sound = simp plain o.sound; last_value = simp plain o.is_last; last_lt_x = rw (rest_read c) (simp plain (o.low, o.high)) }
 
 labels-are : (c : After-labels_below-rest) → let s = (goal.at.After-labels_below-rest c).Start in
     to_z w64 (of_z w64 c.labels_below-rest.result) ≡ pos (count (row (asked s)) (s.args.last +ℤ pos 1) (s.args.x -ℤ turns (asked s) *ℤ s.args.a_distance -ℤ pos 1))

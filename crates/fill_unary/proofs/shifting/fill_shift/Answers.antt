@@ -3,9 +3,9 @@
 use borrow.Author.Rules.{sfits_of}
 use borrow.Author.Tests.{not-true, not-false}
 use mathlib.Core.Path.{◌≡◌, refl, sym, ◌∙◌, ap}
-use mathlib.Core.Logic.{inl, inr, ⊎_elim}
+use mathlib.Core.Logic.{inl, inr}
 use mathlib.Core.List.{List}
-use Prim.Native.Nat.{ℕ, ◌+◌, ◌-◌, ◌≤◌, ◌<◌}
+use Prim.Native.Nat.{ℕ, ◌+◌, ◌≤◌, ◌<◌}
 use native.Mathlib.Omega.{arith}
 use lib.IntN.{ℤ, pos}
 use lib.ListN.{length, get_or}
@@ -17,13 +17,12 @@ use Rattle.calendar.specs.Limits.{pool_limit}
 use Rattle.calendar.specs.Meaning.{label_of, raise}
 use Rattle.calendar.specs.Operation.Unary.{shift}
 use Rattle.calendar.specs.Operation.Operation.{unary}
-use Rattle.kinds.specs.declared.Operand.{Operand}
 use Rattle.kinds.specs.Stands.{row_in}
 use Rattle.fill_shared.specs.declared.Filled.{Filled}
 use Rattle.fill_shared.specs.Placed.{Fills}
 use Rattle.fill_unary.proofs.Shifts.{Shifts, Shifted, Counts, shift-period, shifted_none, shifted-length, shifted-index, shifted-bound, shifted-more, shifted-out, shifted-done}
 use Rattle.fill_unary.proofs.shifting.fill_shift.Goals as goal
-use Rattle.fill_unary.proofs.shifting.fill_shift.Goals.{After-raised-arg-1, After-raised-cell, At-loop-t, In-loop-t, Joined-is_outside, Start as Start-place}
+use Rattle.fill_unary.proofs.shifting.fill_shift.Goals.{After-raised-arg-1, After-raised-cell, At-loop-t, In-loop-t, Joined-is_outside, Start as Start-place, then-is_outside, else-is_outside}
 
 abbrev Start : Type 0
 Start = Start-place
@@ -42,7 +41,7 @@ shifts s = record {
   is-period = s.requires.placed.is-period ∙ shift-period s.args.x (row_in s.args.pool.now s.args.a);
   a-end = s.requires.placed.a-end;
   room = s.requires.placed.room;
-  few = s.requires.placed.at_most;
+  few = s.requires.placed.at-most;
 }
 
 pub overflow_cast-by : goal.overflow_cast-by
@@ -82,7 +81,7 @@ by-is s = to_z-of_z (overflow_cast-by s)
 pub raised-cell-requires : goal.raised-cell-requires
 raised-cell-requires c =
     let l = (goal.at.raised-cell-requires c).At-loop-t in
-    record { within = (rw (to_z-of_z (cell-fits c), by-is (goal.at.At-loop-t l).Start) (shifted-bound (shifts (goal.at.At-loop-t l).Start) (turn l) c.loop-t-test.true, (shifts (goal.at.At-loop-t l).Start).bound)).0; within_2 = (rw (to_z-of_z (cell-fits c), by-is (goal.at.At-loop-t l).Start) (shifted-bound (shifts (goal.at.At-loop-t l).Start) (turn l) c.loop-t-test.true, (shifts (goal.at.At-loop-t l).Start).bound)).1 }
+    record { within = rw (to_z-of_z (cell-fits c)) (shifted-bound (shifts (goal.at.At-loop-t l).Start) (turn l) c.loop-t-test.true); within_2 = rw (by-is (goal.at.At-loop-t l).Start) (shifts (goal.at.At-loop-t l).Start).bound }
 
 pub overflow_add-cell : goal.overflow_add-cell
 overflow_add-cell c = let h = index (goal.at.overflow_add-cell c).In-loop-t in omega arith
@@ -120,7 +119,7 @@ written_is c =
 counts : (c : Joined-is_outside) → Counts (written (goal.at.Joined-is_outside c).After-raised-cell) c.loop-t.outside c.if-is_outside.outside
 counts c =
     let e = sym c.is_outside.ensures in
-    ⊎_elim (λ w. inl (not-true _ (e ∙ w.0.taken), w.1)) (λ w. inr (not-false _ (e ∙ w.0.left), w.1)) c.if-is_outside.branch-raw
+    elim c.if-is_outside.branch [ then-is_outside w ↦ inl (not-true _ (e ∙ w.if-is_outside.true), w.outside-is) | else-is_outside w ↦ inr (not-false _ (e ∙ w.if-is_outside.false), w.outside-is) ]
 
 pub loop-t-preserved : goal.loop-t-preserved
 loop-t-preserved c = λ a e s.
