@@ -1,7 +1,7 @@
 -- `match_stretches::at_most` meets its contract.
 -- Assumes nothing.
-use borrow.Author.Rules.{rules, sfits_of}
-use mathlib.Core.Path.{sym, ◌∙◌, ap}
+use borrow.Author.Rules.{rules}
+use mathlib.Core.Path.{sym, ap}
 use lib.Signed.{le_z}
 use mir.Syntax.{w64}
 use mir.Val.{SFits}
@@ -14,6 +14,6 @@ use Rattle.match_stretches.proofs.at_most.Goals.{Start}
 pub returns-in-At : goal.returns-in-At
 returns-in-At c =
     let s = (goal.at.returns-in-At c).Start in
-    let w : SFits w64 c.label-1.given.0.0 = sfits_of c.known_told-1.given.0.1 in
+    let w : SFits w64 c.in-At.j = search rules in
     let h = s.ranges.high in
-    simp plain (ap (λ x. if_label (found x) (λ j. le_z j s.args.high)) (sym c.label-1.given.1))
+    simp plain (ap (λ x. if_label (found x) (λ j. le_z j s.args.high)) (sym c.in-At.is))
