@@ -74,7 +74,7 @@ returns c =
     let g = s.requires.fillable in
     let e = k.altering_of-repeat.ensures in
     let f : SFits w64 k.altering_of-repeat.result.fine = sfits_of c.struct_told-3-1.given.1.0.1 in
-    let n = rw ((a-period s).is, (a_distance s).is, (b-period s).is, (b-distance s).is, (x d).is) at e.0 in
-    let m = rw ((a-period s).is, (a_distance s).is, (b-period s).is, (b-distance s).is, (x d).is, to_z-of_z (z-fits d)) at e.1.0 in
+    let n = rw ((a-period s).is, (a_distance s).is, (b-period s).is, (b-distance s).is, (x d).is) at e.coarse in
+    let m = rw ((a-period s).is, (a_distance s).is, (b-period s).is, (b-distance s).is, (x d).is, to_z-of_z (z-fits d)) at e.fine in
     let h = (overflow_cast-result k).sfits in
     record { limits = g.numbers; ready = g.ready; coarse = simp plain (ap pos n); fine = simp plain m; at-most = g.at-most }
