@@ -1,6 +1,7 @@
 -- `table_text::number::negated` meets its contract.
 -- Assumes nothing.
 use mathlib.Core.Path.{sym, ap, ◌∙◌}
+use native.Mathlib.Omega.{arith}
 use Rattle.table_text.specs.declared.number.Number.TheVariants.{Value}
 use Rattle.table_text.proofs.Scanning.{negative-large, negative-value, fits64, fits32, value32}
 use Rattle.table_text.proofs.number.negated.Goals as goal
@@ -15,4 +16,4 @@ pub overflow_cast-result-2 : goal.overflow_cast-result-2
 overflow_cast-result-2 c = fits32 c.args.n c.if-n-gt-BOUND.false
 
 pub returns : goal.returns
-returns c = ap Value (value32 c.args.n c.if-n-gt-BOUND.false) ∙ sym (negative-value c.args.n c.if-n-eq0.false c.if-n-gt-BOUND.false)
+returns c = ap Value (value32 c.args.n c.if-n-gt-BOUND.false) ∙ sym (negative-value c.args.n (omega arith) c.if-n-gt-BOUND.false)
