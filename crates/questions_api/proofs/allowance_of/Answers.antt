@@ -35,17 +35,17 @@ another (negsuc k) v n m = refl
 pub returns-in-0 : goal.returns-in-0
 returns-in-0 c =
     let s = (goal.at.returns-in-0 c).Start in
-    fixed s.args.rule s.args.amount ((test-eq w64 s.args.rule (pos 0) s.ranges.rule zero-fits).0 c.in-0.keys1)
+    fixed s.args.rule s.args.amount ((test-eq w64 s.args.rule (pos 0) s.ranges.rule zero-fits).0 c.in-0.in-0-own.keys1)
 
 pub returns-in-1 : goal.returns-in-1
 returns-in-1 c =
     let s = (goal.at.returns-in-1 c).Start in
-    shared s.args.rule s.args.amount ((test-eq w64 s.args.rule (pos 1) s.ranges.rule one-fits).0 c.in-1.keys2)
+    shared s.args.rule s.args.amount ((test-eq w64 s.args.rule (pos 1) s.ranges.rule one-fits).0 c.in-1.in-1-own.keys2)
 
 pub returns-in_default : goal.returns-in_default
 unfolding of_bits neg
 returns-in_default c =
     let s = (goal.at.returns-in_default c).Start in
     another s.args.rule s.args.amount
-    (λ e. c.in_default.rest.0.1 (ap (of_z w64) e))
-    (λ e. c.in_default.rest.1 (ap (of_z w64) e))
+    (λ e. c.in_default.in_default-own.rest.0.1 (ap (of_z w64) e))
+    (λ e. c.in_default.in_default-own.rest.1 (ap (of_z w64) e))

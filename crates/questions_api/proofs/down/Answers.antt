@@ -8,6 +8,7 @@ use native.Mathlib.Omega.{arith}
 use lib.IntN.{ℤ}
 use lib.ListN.{length}
 use mir.Facts.{to_z-of_z}
+use mir.Syntax.{w64}
 use Rattle.integers.proofs.Machine.{plain}
 use Rattle.calendar.specs.Reply.{Reply}
 use Rattle.calendar.specs.Questions.{given, down}
@@ -16,7 +17,7 @@ use Rattle.questions.specs.Answers.{parts_reply, counted, parts_after}
 use Rattle.questions_api.specs.Codes.{down_code}
 use Rattle.questions_api.proofs.Counts.{count-within}
 use Rattle.questions_api.proofs.down.Goals as goal
-use Rattle.questions_api.proofs.down.Goals.{After-down-parted, In-Parts, In-Parts-2, In-Refused-2, Start}
+use Rattle.questions_api.proofs.down.Goals.{After-down-parted, In-Parts, Start}
 
 abbrev room : Start → ℕ
 room s = length s.args.parts.now
@@ -41,27 +42,26 @@ replied c =
     let q = s.ranges.h_period in
     let m = s.ranges.h_distance in
     let z = s.ranges.z in
-    simp plain at c.down-parted.ensures
+    (simp plain at c.down-parted.ensures.answer, simp plain at c.down-parted.ensures.list)
 
 -- the count is below half of the numbers of 64 bits
-small : (c : In-Parts) → c.parted-1.given.0.0 < 2 ^ 63
+small : (c : In-Parts) → c.in-Parts.n < 2 ^ 63
 small c =
-    let k = (goal.at.In-Parts c).In-Parts-2 in
-    let d = (goal.at.In-Parts-2 k).After-down-parted in
-    let h = count-within (reply (goal.at.After-down-parted d).Start) (sym (ap parts_reply k.parted-1.given.1) ∙ (replied d).0) (replied d).1 d.down-parted.auto.1.0 in
-    omega (arith, h, d.well-formed)
+    let d = (goal.at.In-Parts c).After-down-parted in
+    let l : length c.down-parted.new.parts ≡ room (goal.at.In-Parts c).Start = search rules in
+    let h = count-within (reply (goal.at.In-Parts c).Start) (sym (ap parts_reply c.in-Parts.is) ∙ (replied d).0) (replied d).1 l in
+    let m : room (goal.at.In-Parts c).Start < 2 ^ 63 = search rules in
+    omega (arith, h, m)
 
 pub overflow_cast-result : goal.overflow_cast-result
-overflow_cast-result c = count_fits c.parted-1.given.0.0 (small c)
+overflow_cast-result c = count_fits c.in-Parts.n (small c)
 
 pub returns-in-Parts : goal.returns-in-Parts
 returns-in-Parts c =
-    let k = (goal.at.returns-in-Parts c).In-Parts-2 in
-    let d = replied (goal.at.In-Parts-2 k).After-down-parted in
-    record { code = count-back k.parted-1.given.0.0 (small c) ∙ ap down_code (sym (ap parts_reply k.parted-1.given.1) ∙ d.0); list = d.1 }
+    let d = replied (goal.at.returns-in-Parts c).After-down-parted in
+    record { code = count-back c.in-Parts.n (small (goal.at.returns-in-Parts c).In-Parts) ∙ ap down_code (sym (ap parts_reply c.in-Parts.is) ∙ d.0); list = d.1 }
 
 pub returns-in-Refused : goal.returns-in-Refused
 returns-in-Refused c =
-    let k = (goal.at.returns-in-Refused c).In-Refused-2 in
-    let d = replied (goal.at.In-Refused-2 k).After-down-parted in
-    record { code = to_z-of_z {w = w64} (sfits_of c.refusal_code.type_inv) ∙ c.refusal_code.ensures ∙ ap down_code (sym (ap parts_reply k.parted-in-Refused-1.given.1) ∙ d.0); list = d.1 }
+    let d = replied (goal.at.returns-in-Refused c).After-down-parted in
+    record { code = to_z-of_z {w = w64} (sfits_of c.refusal_code.type_inv) ∙ c.refusal_code.ensures ∙ ap down_code (sym (ap parts_reply c.in-Refused.is) ∙ d.0); list = d.1 }

@@ -1,11 +1,12 @@
 -- `questions_api::figures` meets its contract: the figures that `questions::figures` answers, or its refusal and zeros.
-use borrow.Author.Rules.{rules, sfits_of}
+use borrow.Author.Rules.{sfits_of}
 use mathlib.Core.Path.{◌≡◌, refl, sym, ◌∙◌, ap, subst}
 use mathlib.Core.Bool.{Bool, true, false}
 use Prim.Native.Nat.{ℕ}
 use native.Mathlib.Omega.{arith}
 use lib.Ieee.{of_bits}
 use mir.Facts.{to_z-of_z}
+use mir.Syntax.{w64}
 use Rattle.integers.proofs.Machine.{plain}
 use Rattle.calendar.specs.Meaning.{Row}
 use Rattle.calendar.specs.Questions.{given}
@@ -13,7 +14,7 @@ use Rattle.codes.specs.Codes.{refusal_code}
 use Rattle.questions.specs.Answers.{FiguresOf}
 use Rattle.questions_api.specs.Codes.{figures_code}
 use Rattle.questions_api.proofs.figures.Goals as goal
-use Rattle.questions_api.proofs.figures.Goals.{After-figures-figured, In-Are-2, In-Refused-2, Start}
+use Rattle.questions_api.proofs.figures.Goals.{After-figures-figured, Start}
 
 abbrev row : Start → Row
 row s = given s.args.period s.args.distance s.args.cells.now
@@ -31,17 +32,15 @@ clash t f = let z : ◌≡◌ {A = ℕ} 0 1 = cc in omega arith
 
 pub returns-in-Are : goal.returns-in-Are
 returns-in-Are c =
-    let k = (goal.at.returns-in-Are c).In-Are-2 in
-    let d = (goal.at.In-Are-2 k).After-figures-figured in
-    let h = subst (FiguresOf (row (goal.at.After-figures-figured d).Start) d.args.granules) k.figured-1.given.1 (replied d) in
+    let d = (goal.at.returns-in-Are c).After-figures-figured in
+    let h = subst (FiguresOf (row (goal.at.After-figures-figured d).Start) d.args.granules) c.in-Are.is (replied d) in
     record { is = ap figures_code (sym h.0); figures = λ _. h.1; zeros = λ f. absurd (clash h.0 f) }
 
 pub returns-in-Refused : goal.returns-in-Refused
 unfolding of_bits
 returns-in-Refused c =
-    let k = (goal.at.returns-in-Refused c).In-Refused-2 in
-    let d = (goal.at.In-Refused-2 k).After-figures-figured in
-    let h = subst (FiguresOf (row (goal.at.After-figures-figured d).Start) d.args.granules) k.figured-in-Refused-1.given.1 (replied d) in
+    let d = (goal.at.returns-in-Refused c).After-figures-figured in
+    let h = subst (FiguresOf (row (goal.at.After-figures-figured d).Start) d.args.granules) c.in-Refused.is (replied d) in
     record {
       is = to_z-of_z {w = w64} (sfits_of c.refusal_code.type_inv) ∙ c.refusal_code.ensures ∙ ap refusal_code h.1 ∙ ap figures_code (sym h.0);
       figures = λ f. absurd (clash f h.0);

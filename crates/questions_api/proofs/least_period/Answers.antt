@@ -6,6 +6,8 @@ use Prim.Native.Nat.{ℕ, ◌<◌, ◌^◌}
 use native.Mathlib.Omega.{arith}
 use lib.IntN.{ℤ}
 use mir.Facts.{to_z-of_z}
+use mir.Syntax.{w64}
+use mir.Val.{SFits}
 use Rattle.integers.proofs.Machine.{plain}
 use Rattle.calendar.specs.Meaning.{Row}
 use Rattle.calendar.specs.Reply.Reply.{answer}
@@ -15,7 +17,7 @@ use Rattle.questions.specs.Answers.{least_period, shortening_reply}
 use Rattle.questions.proofs.Shortest.{tried-within}
 use Rattle.questions_api.specs.Codes.{least_code, tried_left}
 use Rattle.questions_api.proofs.least_period.Goals as goal
-use Rattle.questions_api.proofs.least_period.Goals.{After-least_period-shortening, In-Refused-2, In-To-2, Start}
+use Rattle.questions_api.proofs.least_period.Goals.{After-least_period-shortening, Start}
 
 abbrev row : Start → Row
 row s = given s.args.period s.args.distance s.args.cells.now
@@ -33,20 +35,18 @@ small s p n e = omega (arith, tried-within (row s) p n e)
 
 pub overflow_cast-tried : goal.overflow_cast-tried
 overflow_cast-tried c =
-    let k = (goal.at.overflow_cast-tried c).In-To-2 in
-    let d = (goal.at.In-To-2 k).After-least_period-shortening in
-    count_fits _ (small (goal.at.After-least_period-shortening d).Start _ _ (sym (ap shortening_reply k.shortening-1.given.1) ∙ replied d))
+    let d = (goal.at.overflow_cast-tried c).After-least_period-shortening in
+    count_fits _ (small (goal.at.After-least_period-shortening d).Start _ _ (sym (ap shortening_reply c.in-To.is) ∙ replied d))
 
 pub returns-in-To : goal.returns-in-To
 returns-in-To c =
-    let k = (goal.at.returns-in-To c).In-To-2 in
-    let d = (goal.at.In-To-2 k).After-least_period-shortening in
-    let e = sym (ap shortening_reply k.shortening-1.given.1) ∙ replied d in
-    record { code = to_z-of_z (sfits_of c.struct_told-1.given.0.1) ∙ ap least_code e; tried = count-back _ (small (goal.at.After-least_period-shortening d).Start _ _ e) ∙ ap tried_left e }
+    let d = (goal.at.returns-in-To c).After-least_period-shortening in
+    let e = sym (ap shortening_reply c.in-To.is) ∙ replied d in
+    let f : SFits w64 c.in-To.shortest.period = search rules in
+    record { code = to_z-of_z f ∙ ap least_code e; tried = count-back _ (small (goal.at.After-least_period-shortening d).Start _ _ e) ∙ ap tried_left e }
 
 pub returns-in-Refused : goal.returns-in-Refused
 returns-in-Refused c =
-    let k = (goal.at.returns-in-Refused c).In-Refused-2 in
-    let d = (goal.at.In-Refused-2 k).After-least_period-shortening in
-    let e = sym (ap shortening_reply k.shortening-in-Refused-1.given.1) ∙ replied d in
+    let d = (goal.at.returns-in-Refused c).After-least_period-shortening in
+    let e = sym (ap shortening_reply c.in-Refused.is) ∙ replied d in
     record { code = to_z-of_z {w = w64} (sfits_of c.refusal_code.type_inv) ∙ c.refusal_code.ensures ∙ ap least_code e; tried = ap tried_left e }

@@ -1,8 +1,9 @@
 -- `questions_api::may_be_late` meets its contract: the code of what `questions::may_be_late` answers for the rule's allowance.
-use borrow.Author.Rules.{rules, sfits_of}
-use mathlib.Core.Path.{◌≡◌, sym, ◌∙◌, ap}
+use borrow.Author.Rules.{sfits_of}
+use mathlib.Core.Path.{◌≡◌, ◌∙◌, ap}
 use mathlib.Core.Bool.{Bool}
 use mir.Facts.{to_z-of_z}
+use mir.Syntax.{w64}
 use Rattle.integers.proofs.Machine.{plain}
 use Rattle.calendar.specs.Reply.{Reply}
 use Rattle.calendar.specs.Questions.{given}

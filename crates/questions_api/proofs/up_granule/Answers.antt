@@ -1,9 +1,10 @@
 -- `questions_api::up_granule` meets its contract: the code and the label of what `questions::up_granule` answers.
-use borrow.Author.Rules.{rules, sfits_of}
+use borrow.Author.Rules.{sfits_of}
 use mathlib.Core.Path.{◌≡◌, ◌∙◌, ap}
 use mathlib.Core.Option.{Option}
 use lib.IntN.{ℤ}
 use mir.Facts.{to_z-of_z}
+use mir.Syntax.{w64}
 use Rattle.integers.proofs.Machine.{plain}
 use Rattle.calendar.specs.Reply.{Reply}
 use Rattle.calendar.specs.Questions.{given, up_from_granule}

@@ -1,9 +1,10 @@
 -- `questions_api::up_instant` meets its contract: the code, the label and the place of what `questions::up_instant`
 -- answers.
-use borrow.Author.Rules.{rules, sfits_of}
+use borrow.Author.Rules.{sfits_of}
 use mathlib.Core.Path.{◌≡◌, ◌∙◌, ap}
 use mathlib.Core.Option.{Option}
 use mir.Facts.{to_z-of_z}
+use mir.Syntax.{w64}
 use Rattle.integers.proofs.Machine.{plain}
 use Rattle.calendar.specs.Meaning.{Row}
 use Rattle.calendar.specs.Reply.{Reply}
@@ -38,4 +39,4 @@ pub returns : goal.returns
 returns c =
     let e = replied (goal.at.returns c).After-up_instant-placing in
     let k = c.of_placing.ensures in
-    record { code = ((to_z-of_z {w = w64} (sfits_of c.of_placing.type_inv) ∙ k.code ∙ ap placed_code e, (k.label ∙ ap placed_label e, k.place ∙ ap placed_place e))).0; label = ((to_z-of_z {w = w64} (sfits_of c.of_placing.type_inv) ∙ k.code ∙ ap placed_code e, (k.label ∙ ap placed_label e, k.place ∙ ap placed_place e))).1; place = ((to_z-of_z {w = w64} (sfits_of c.of_placing.type_inv) ∙ k.code ∙ ap placed_code e, (k.label ∙ ap placed_label e, k.place ∙ ap placed_place e))).2 }
+    record { code = to_z-of_z {w = w64} (sfits_of c.of_placing.type_inv) ∙ k.code ∙ ap placed_code e; label = k.label ∙ ap placed_label e; place = k.place ∙ ap placed_place e }

@@ -1,6 +1,5 @@
 -- `planner::arguments::digits` is safe and ends.
 -- Assumes nothing.
-use borrow.Author.Rules.{rules}
 use Prim.Native.Nat.{◌≤◌, ◌-◌}
 use lib.ListN.{length}
 use Rattle.planner.proofs.arguments.digits.Given as goal

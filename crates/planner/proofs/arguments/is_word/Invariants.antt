@@ -1,6 +1,5 @@
 -- `planner::arguments::is_word` is safe and ends.
 -- Assumes nothing.
-use borrow.Author.Rules.{rules}
 use Prim.Native.Nat.{◌≤◌, ◌-◌}
 use lib.ListN.{length}
 use Rattle.planner.proofs.arguments.is_word.Given as goal

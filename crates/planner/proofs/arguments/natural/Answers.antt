@@ -1,6 +1,5 @@
 -- `planner::arguments::natural` is safe: a number that is not below 0 is one of 63 bits.
 -- Assumes nothing.
-use borrow.Author.Rules.{rules}
 use lib.Signed.{yes_non_neg}
 use mir.Facts.{Fits-nat_abs}
 use Rattle.integers.proofs.Machine.{plain}

@@ -1,6 +1,5 @@
 -- `planner::arguments::negative` is safe: of a v that is not below 0, -v fits.
 -- Assumes nothing.
-use borrow.Author.Rules.{rules}
 use native.Mathlib.Omega.{arith}
 use lib.IntN.{ℤ, pos, ◌-ℤ◌}
 use lib.Signed.{◌≤ℤ◌}

@@ -1,6 +1,5 @@
 -- `planner::down::print_parts` is safe and ends.
 -- Assumes nothing.
-use borrow.Author.Rules.{rules}
 use Prim.Native.Nat.{◌≤◌, ◌-◌}
 use Rattle.planner.proofs.down.print_parts.Given as goal
 

@@ -1,5 +1,4 @@
 -- `planner::late::float` is safe: the number has a float of its own.
-use borrow.Author.Rules.{rules}
 use native.Mathlib.Omega.{arith}
 use Rattle.floats.proofs.Whole.{cast_fits}
 use Rattle.planner.proofs.late.float.Goals as goal

@@ -1,6 +1,5 @@
 -- `planner::month::print_halves` is safe and ends.
 -- Assumes nothing.
-use borrow.Author.Rules.{rules}
 use Prim.Native.Nat.{◌≤◌, ◌-◌}
 use Rattle.planner.proofs.month.print_halves.Given as goal
 

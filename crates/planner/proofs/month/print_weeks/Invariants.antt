@@ -1,6 +1,5 @@
 -- `planner::month::print_weeks` is safe and ends.
 -- Assumes nothing.
-use borrow.Author.Rules.{rules}
 use Prim.Native.Nat.{◌≤◌, ◌-◌}
 use Rattle.planner.proofs.month.print_weeks.Given as goal
 

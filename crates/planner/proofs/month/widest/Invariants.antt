@@ -1,6 +1,5 @@
 -- `planner::month::widest` is safe and ends.
 -- Assumes nothing.
-use borrow.Author.Rules.{rules}
 use Prim.Native.Nat.{◌≤◌, ◌-◌}
 use Rattle.planner.proofs.month.widest.Given as goal
 

@@ -1,6 +1,5 @@
 -- `planner::picture::print_lines` is safe and ends.
 -- Assumes nothing.
-use borrow.Author.Rules.{rules}
 use Prim.Native.Nat.{◌≤◌, ◌-◌}
 use Rattle.planner.proofs.picture.print_lines.Given as goal
 

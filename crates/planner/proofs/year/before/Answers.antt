@@ -1,6 +1,5 @@
 -- `planner::year::before` is safe: above the least number there is one less.
 -- Assumes nothing.
-use borrow.Author.Rules.{rules}
 use native.Mathlib.Omega.{arith}
 use lib.IntN.{ℤ, pos, negsuc, ◌-ℤ◌}
 use lib.Signed.{◌<ℤ◌}

@@ -7,6 +7,8 @@ use native.Mathlib.Omega.{arith}
 use lib.IntN.{ℤ, pos}
 use lib.Signed.{◌≤ℤ◌}
 use mir.Facts.{to_z-of_z}
+use mir.Syntax.{w64}
+use mir.Val.{SFits}
 use Rattle.integers.proofs.Linear.{ints, ◌∴◌}
 use Rattle.calendar.specs.Reply.{Reply}
 use Rattle.calendar.specs.Reply.Reply.{answer}
@@ -16,7 +18,6 @@ use Rattle.codes.proofs.Counts.{count_fits, count-back}
 use Rattle.questions.specs.Answers.{placed_reply}
 use Rattle.questions_api.specs.Codes.{placed_code, placed_label, placed_place}
 use Rattle.questions_api.proofs.told.of_placing.Goals as goal
-use Rattle.questions_api.proofs.told.of_placing.Goals.{In-At-2}
 
 -- a place that is told fits
 small : {r : Reply (Option Placed)} (j : ℤ) (n : ℕ) → answer (some (record { label = j; place = n })) ≡ r → placed_place r ≤ℤ pos pool_limit → n < 2 ^ 63
@@ -24,20 +25,20 @@ small j n e h = subst (λ (r : Reply (Option Placed)). placed_place r ≤ℤ pos
 
 pub overflow_cast-place : goal.overflow_cast-place
 overflow_cast-place c =
-    let k = (goal.at.overflow_cast-place c).In-At-2 in
-    count_fits _ (small _ _ (sym (ap placed_reply k.placing-1.given.1)) k.requires)
+    count_fits _ (small _ _ (sym (ap placed_reply c.in-At.is)) c.requires)
 
 pub returns-in-At : goal.returns-in-At
 returns-in-At c =
-    let k = (goal.at.returns-in-At c).In-At-2 in
-    let e = sym (ap placed_reply k.placing-1.given.1) in record { code = ap placed_code e; label = (to_z-of_z (sfits_of c.known_told-1.given.0.1) ∙ ap placed_label e, count-back _ (small _ _ e k.requires) ∙ ap placed_place e); place =  }
+    let e = sym (ap placed_reply c.in-At.is) in
+    let f : SFits w64 c.in-At.j = search rules in
+    record { code = ap placed_code e; label = to_z-of_z f ∙ ap placed_label e; place = count-back _ (small _ _ e c.requires) ∙ ap placed_place e }
 
 pub returns-in-Nothing : goal.returns-in-Nothing
 returns-in-Nothing c =
-    let e = sym (ap placed_reply c.enum_told-1.given.1) in
-    record { code = ((ap placed_code e, (ap placed_label e, ap placed_place e))).0; label = ((ap placed_code e, (ap placed_label e, ap placed_place e))).1; place = ((ap placed_code e, (ap placed_label e, ap placed_place e))).2 }
+    let e = sym (ap placed_reply c.in-Nothing.is) in
+    record { code = ap placed_code e; label = ap placed_label e; place = ap placed_place e }
 
 pub returns-in-Refused : goal.returns-in-Refused
 returns-in-Refused c =
-    let e = sym (ap placed_reply c.placing-in-Refused-1.given.1) in
-    record { code = ((to_z-of_z {w = w64} (sfits_of c.refusal_code.type_inv) ∙ c.refusal_code.ensures ∙ ap placed_code e, (ap placed_label e, ap placed_place e))).0; label = ((to_z-of_z {w = w64} (sfits_of c.refusal_code.type_inv) ∙ c.refusal_code.ensures ∙ ap placed_code e, (ap placed_label e, ap placed_place e))).1; place = ((to_z-of_z {w = w64} (sfits_of c.refusal_code.type_inv) ∙ c.refusal_code.ensures ∙ ap placed_code e, (ap placed_label e, ap placed_place e))).2 }
+    let e = sym (ap placed_reply c.in-Refused.is) in
+    record { code = to_z-of_z {w = w64} (sfits_of c.refusal_code.type_inv) ∙ c.refusal_code.ensures ∙ ap placed_code e; label = ap placed_label e; place = ap placed_place e }
