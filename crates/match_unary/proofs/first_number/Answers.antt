@@ -4,7 +4,7 @@ use borrow.Author.Rules.{rules, sfits_of}
 use mathlib.Core.Path.{◌≡◌, sym, ◌∙◌, ap, subst}
 use Prim.Native.Nat.{◌^◌}
 use native.Mathlib.Omega.{arith}
-use lib.IntN.{ℤ, pos, neg_ℤ, ◌+ℤ◌}
+use lib.IntN.{pos, neg_ℤ, ◌+ℤ◌}
 use lib.Signed.{◌≤ℤ◌}
 use mir.Facts.{to_z-of_z}
 use mir.Syntax.{w64}
@@ -23,22 +23,22 @@ use Rattle.match_unary.specs.Numbered.{kind_of, number_in}
 use Rattle.match_unary.proofs.Single.{sound-first}
 use Rattle.match_unary.proofs.Counting.{last_within}
 use Rattle.match_unary.proofs.first_number.Goals as goal
-use Rattle.match_unary.proofs.first_number.Goals.{In-Group, In-Group-2, In-Renumber, In-Renumber-2, In-Shift, In-Shift-2, Start}
+use Rattle.match_unary.proofs.first_number.Goals.{In-Group, In-Renumber, In-Shift, Start}
 
 abbrev row : Start → Row
 row s = given s.args.period s.args.distance s.args.cells.now
 
 -- ---- group
-group-limits : (c : In-Group-2) → (pos 1 ≤ℤ c.by-1.given.0.0) × (c.by-1.given.0.0 ≤ℤ million)
-group-limits c = subst (λ (u : Unary). Numbers (kind_of u)) c.by-1.given.1 c.requires.fillable.numbers
+group-limits : (c : In-Group) → (pos 1 ≤ℤ c.in-Group.x) × (c.in-Group.x ≤ℤ million)
+group-limits c = subst (λ (u : Unary). Numbers (kind_of u)) c.in-Group.is c.requires.fillable.numbers
 
-group-fits : (c : In-Group) → SFits w64 c.by-1.given.0.0
-group-fits c = sfits_of c.known_told-1.given.0.1
+group-fits : (c : In-Group) → SFits w64 c.in-Group.x
+group-fits c = search rules
 
 pub ceil_div-requires : goal.ceil_div-requires
 ceil_div-requires c =
     let x = group-fits c in
-    let h = group-limits (goal.at.ceil_div-requires c).In-Group-2 in
+    let h = group-limits (goal.at.ceil_div-requires c).In-Group in
     rw (to_z-of_z x) (h.0 ∴ simp ints (omega arith))
 
 -- ---- shift
@@ -47,27 +47,27 @@ last-small s =
     subst (Within (2 ^ 30)) (sym s.requires.last_value)
     (last_within s.args.by s.args.period s.args.distance s.args.cells.now (sound-first s.args.by _ _ s.requires.fillable.sounds) s.requires.fillable.numbers (pos 0) (simp ints (omega arith)) (simp ints (omega arith)))
 
-shift-limits : (c : In-Shift-2) → (neg_ℤ label_limit ≤ℤ c.by-in-Shift-1.given.0.0) × (c.by-in-Shift-1.given.0.0 ≤ℤ label_limit)
-shift-limits c = subst (λ (u : Unary). Numbers (kind_of u)) c.by-in-Shift-1.given.1 c.requires.fillable.numbers
+shift-limits : (c : In-Shift) → (neg_ℤ label_limit ≤ℤ c.in-Shift.x) × (c.in-Shift.x ≤ℤ label_limit)
+shift-limits c = subst (λ (u : Unary). Numbers (kind_of u)) c.in-Shift.is c.requires.fillable.numbers
 
-sum_fits : (c : In-Shift-2) → SFits w64 (c.args.last +ℤ c.by-in-Shift-1.given.0.0)
-sum_fits c = let h = shift-limits c in h ∴ last-small (goal.at.In-Shift-2 c).Start ∴ simp ints (omega arith)
+sum_fits : (c : In-Shift) → SFits w64 (c.args.last +ℤ c.in-Shift.x)
+sum_fits c = let h = shift-limits c in h ∴ last-small (goal.at.In-Shift c).Start ∴ simp ints (omega arith)
 
-shift_fits : (c : In-Shift) → SFits w64 c.by-in-Shift-1.given.0.0
-shift_fits c = sfits_of c.known_told-in-Shift-1.given.0.1
+shift_fits : (c : In-Shift) → SFits w64 c.in-Shift.x
+shift_fits c = search rules
 
 pub overflow_add-result : goal.overflow_add-result
 overflow_add-result c =
     let x = shift_fits c in
     let j = c.ranges.last in
-    rw (to_z-of_z j, to_z-of_z x) (sum_fits (goal.at.overflow_add-result c).In-Shift-2)
+    rw (to_z-of_z j, to_z-of_z x) (sum_fits (goal.at.overflow_add-result c).In-Shift)
 
 -- ---- renumber
-renumber-fits : (c : In-Renumber) → SFits w64 c.by-in-Renumber-1.given.0.0
-renumber-fits c = sfits_of c.known_told-in-Renumber-1.given.0.1
+renumber-fits : (c : In-Renumber) → SFits w64 c.in-Renumber.x
+renumber-fits c = search rules
 
-renumber-given : (c : In-Renumber-2) → let s = (goal.at.In-Renumber-2 c).Start in Fillable (Renumber c.by-in-Renumber-1.given.0.0) (row s) (row s)
-renumber-given c = let s = (goal.at.In-Renumber-2 c).Start in subst (λ (u : Unary). Fillable (kind_of u) (row s) (row s)) c.by-in-Renumber-1.given.1 s.requires.fillable
+renumber-given : (c : In-Renumber) → let s = (goal.at.In-Renumber c).Start in Fillable (Renumber c.in-Renumber.x) (row s) (row s)
+renumber-given c = let s = (goal.at.In-Renumber c).Start in subst (λ (u : Unary). Fillable (kind_of u) (row s) (row s)) c.in-Renumber.is s.requires.fillable
 
 pub number_of-requires : goal.number_of-requires
 number_of-requires c =
@@ -76,7 +76,7 @@ number_of-requires c =
     let l = s.ranges.last in
     let p = s.ranges.period in
     let d = s.ranges.distance in
-    record { fillable = simp plain (renumber-given (goal.at.number_of-requires c).In-Renumber-2); last_value = simp plain s.requires.last_value }
+    record { fillable = simp plain (renumber-given (goal.at.number_of-requires c).In-Renumber); last_value = simp plain s.requires.last_value }
 
 -- ---- the answers
 answer : (s : Start) (u : Unary) → s.args.by ≡ u → number_in u (row s) s.args.last ≡ number_in s.args.by (row s) s.args.last
@@ -88,15 +88,15 @@ returns-in-Group c =
     let s = (goal.at.In-Group k).Start in
     let x = group-fits k in
     let l = s.ranges.last in
-    to_z-of_z {w = w64} (sfits_of c.ceil_div.type_inv) ∙ simp plain at c.ceil_div.ensures ∙ answer s _ k.by-1.given.1
+    to_z-of_z {w = w64} (sfits_of c.ceil_div.type_inv) ∙ simp plain at c.ceil_div.ensures ∙ answer s _ k.in-Group.is
 
 pub returns-in-Shift : goal.returns-in-Shift
 returns-in-Shift c =
     let s = (goal.at.returns-in-Shift c).Start in
     let x = shift_fits c in
     let l = s.ranges.last in
-    let f = sum_fits (goal.at.returns-in-Shift c).In-Shift-2 in
-    simp plain (answer s _ c.by-in-Shift-1.given.1)
+    let f = sum_fits (goal.at.returns-in-Shift c).In-Shift in
+    simp plain (answer s _ c.in-Shift.is)
 
 pub returns-in-Renumber : goal.returns-in-Renumber
 returns-in-Renumber c =
@@ -106,4 +106,4 @@ returns-in-Renumber c =
     let l = s.ranges.last in
     let p = s.ranges.period in
     let d = s.ranges.distance in
-    to_z-of_z {w = w64} (sfits_of c.number_of.type_inv) ∙ simp plain at c.number_of.ensures ∙ answer s _ k.by-in-Renumber-1.given.1
+    to_z-of_z {w = w64} (sfits_of c.number_of.type_inv) ∙ simp plain at c.number_of.ensures ∙ answer s _ k.in-Renumber.is

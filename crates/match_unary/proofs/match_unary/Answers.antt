@@ -1,11 +1,11 @@
 -- `match_unary::match_unary` meets its contract: each turn of the loop compares the label of one instant.
 -- Assumes nothing.
-use borrow.Author.Rules.{sfits_of}
+use borrow.Author.Rules.{rules, sfits_of}
 use borrow.Author.Tests.{not-true, not-false}
 use mathlib.Core.Path.{◌≡◌, sym, ◌∙◌, ap, subst}
 use mathlib.Core.Option.{map}
 use mathlib.Core.Bool.{true}
-use Prim.Native.Nat.{◌+◌, ◌-◌}
+use Prim.Native.Nat.{◌+◌}
 use native.Mathlib.Omega.{arith}
 use lib.IntN.{ℤ, pos, negsuc, ◌+ℤ◌}
 use lib.Signed.{◌≤ℤ◌}
@@ -30,7 +30,6 @@ use Rattle.fill_shared.proofs.Points.{is-near, label_small}
 use Rattle.match_shared.specs.declared.Matched.{Matched}
 use Rattle.match_shared.specs.Matching.{matched_as}
 use Rattle.match_shared.specs.Claims.{Claimed}
-use Rattle.match_shared.specs.Seen.{Compares}
 use Rattle.match_shared.proofs.Lent.{lent_row, lent_row_lem}
 use Rattle.match_shared.proofs.Claims.{claim-positive, claim-inside, claim-below, claim-outside, claim-standing, claim-matched}
 use Rattle.match_unary.specs.Numbered.{kind_of, number_in, Counts}
@@ -78,7 +77,7 @@ abbrev lent : Told → Row
 lent c = lent_row (entry c).args.a c.cells_of-cells.result.now
 
 a-is : (c : Told) → lent c ≡ row (entry c)
-a-is c = lent_row_lem (entry c).args.a _ _ (sfits_of c.struct_told-1.given.1.0.1) (sfits_of c.struct_told-2-1.given.1.1.0.1) c.cells_of-cells.ensures
+a-is c = lent_row_lem (entry c).args.a _ _ (search rules) (search rules) c.cells_of-cells.ensures
 
 lent-sound : (c : Told) → sound (lent c) ≡ true
 lent-sound c = subst (λ (x : Row). sound x ≡ true) (sym (a-is c)) (is-sound (entry c))
@@ -91,13 +90,11 @@ pub first_number-requires : goal.first_number-requires
 first_number-requires c =
     let l = (goal.at.first_number-requires c).After-last_before-last in
     let d = (goal.at.After-last_before-last l).After-struct_told-2-1 in
-    let s = entry d in record { fillable = ((
-      subst (λ (x : Row). Fillable (kind_of s.args.by) x x) (sym (a-is d)) (fillable-twice (kind_of s.args.by) (row s) _ (one-operand s.args.by) s.requires.fillable),
-      to_z-of_z {w = w64} (sfits_of l.last_before-last.type_inv) ∙ l.last_before-last.ensures,
-    )).0; last_value = ((
-      subst (λ (x : Row). Fillable (kind_of s.args.by) x x) (sym (a-is d)) (fillable-twice (kind_of s.args.by) (row s) _ (one-operand s.args.by) s.requires.fillable),
-      to_z-of_z {w = w64} (sfits_of l.last_before-last.type_inv) ∙ l.last_before-last.ensures,
-    )).1 }
+    let s = entry d in
+    record {
+      fillable = subst (λ (x : Row). Fillable (kind_of s.args.by) x x) (sym (a-is d)) (fillable-twice (kind_of s.args.by) (row s) _ (one-operand s.args.by) s.requires.fillable);
+      last_value = to_z-of_z {w = w64} (sfits_of l.last_before-last.type_inv) ∙ l.last_before-last.ensures;
+    }
 
 pub cursor_at-cursor-requires : goal.cursor_at-cursor-requires
 cursor_at-cursor-requires c = record { sound = lent-sound (goal.at.cursor_at-cursor-requires c).After-struct_told-2-1; near = simp ints (omega arith) }
@@ -148,10 +145,10 @@ standing c =
     (is-sound (from_start c), (pos l.loop-t.t, is-near _ h.0 h.1, l.loop-t.invariant.1.0))
 
 pub cursor_label-own-requires : goal.cursor_label-own-requires
-cursor_label-own-requires c = record { sound = (standing (goal.at.cursor_label-own-requires c).In-loop-t).0; standing = (standing (goal.at.cursor_label-own-requires c).In-loop-t).1 }
+cursor_label-own-requires c = let x = standing (goal.at.cursor_label-own-requires c).In-loop-t in record { sound = x.0; standing = x.1 }
 
 pub cursor_next-cursor-requires : goal.cursor_next-cursor-requires
-cursor_next-cursor-requires c = record { sound = (standing (goal.at.cursor_next-cursor-requires c).In-loop-t).0; standing = (standing (goal.at.cursor_next-cursor-requires c).In-loop-t).1 }
+cursor_next-cursor-requires c = let x = standing (goal.at.cursor_next-cursor-requires c).In-loop-t in record { sound = x.0; standing = x.1 }
 
 -- the label of the instant in the operand, and the cursor of the next
 abbrev in-label : After-cursor_label-own → In-loop
@@ -166,8 +163,8 @@ own-label c =
 
 next-cursor : (c : After-cursor_next-cursor) → let i = in-label (goal.at.After-cursor_next-cursor c).After-cursor_label-own in c.cursor_next-cursor.result ≡ cursor_at (row (from_start i)) (pos (i.loop-t.t + 1))
 next-cursor c =
-    let l = (in-label (goal.at.After-cursor_next-cursor c).After-cursor_label-own).before in
-    (subst (λ (x : Row). (u : ℤ) → l.loop-t.cursor ≡ cursor_at x u → c.cursor_next-cursor.result ≡ cursor_at x (u +ℤ pos 1)) (a-is (told l.before)) c.cursor_next-cursor.ensures)
+    let l = (goal.at.In-loop-t (in-label (goal.at.After-cursor_next-cursor c).After-cursor_label-own)).At-loop-t in
+    (subst (λ (x : Row). (u : ℤ) → l.loop-t.cursor ≡ cursor_at x u → c.cursor_next-cursor.result ≡ cursor_at x (u +ℤ pos 1)) (a-is (told (goal.at.At-loop-t l).After-begin-seen)) c.cursor_next-cursor.ensures)
     (pos l.loop-t.t) l.loop-t.invariant.1.0
 
 pub next_counted-k-requires : goal.next_counted-k-requires
@@ -176,10 +173,12 @@ next_counted-k-requires c =
     let i = in-label o in
     let s = from_start i in
     let h = in-time i in
-    let a = s.args.a in record { numbers = s.requires.fillable.numbers; within = (
-        counts-within s.args.by a.period a.distance _ (is-sound s) s.requires.fillable.numbers _ h.0 h.1 _ i.loop-t.invariant.0,
-        λ j e. label_small a.period a.distance _ (is-sound s) _ j h.0 h.1 (sym (own-label o) ∙ e),
-      ); within_2 =  }
+    let a = s.args.a in
+    record {
+      numbers = s.requires.fillable.numbers;
+      within = counts-within s.args.by a.period a.distance _ (is-sound s) s.requires.fillable.numbers _ h.0 h.1 _ i.loop-t.invariant.0;
+      within_2 = λ j e. label_small a.period a.distance _ (is-sound s) _ j h.0 h.1 (sym (own-label o) ∙ e);
+    }
 
 -- the last label and its number behind the instant
 counted : (c : After-next_counted-k) → let i = in-label (goal.at.After-next_counted-k c).After-cursor_label-own in
@@ -202,7 +201,7 @@ label_is c =
     let s = from_start i in
     let t = pos i.loop-t.t in
     c.numbered-label.ensures
-    ∙ ap (λ (z : ℤ). map (λ j. z) (found o.cursor_label-own.result)) (to_z-of_z (sfits_of c.struct_told-in-loop-t-5-1.given.1.0.1))
+    ∙ ap (λ (z : ℤ). map (λ j. z) (found o.cursor_label-own.result)) (to_z-of_z {w = w64} (search rules))
     ∙ ap (map (λ j. n.next_counted-k.result.number)) (own-label o)
     ∙ counts-label (is-valid s) t (counted n)
     ∙ sym (result-is s.args.by (row s) (row s) t)
@@ -212,21 +211,21 @@ returns-then-not-in_limits c =
     let n = (goal.at.returns-then-not-in_limits c).After-in_limits in
     let i = in-numbered (goal.at.After-in_limits n).After-numbered-label in
     let s = from_start i in
-    answered s _ (claim-outside (claimed s) i.loop-t-test.taken _ (label_is (goal.at.After-in_limits n).After-numbered-label) (sym n.in_limits.ensures ∙ not-true _ c.if-not-in_limits.true-raw))
+    answered s _ (claim-outside (claimed s) i.loop-t-test.true _ (label_is (goal.at.After-in_limits n).After-numbered-label) (sym n.in_limits.ensures ∙ not-true _ c.if-not-in_limits.true-raw))
 
 pub compared-seen-requires : goal.compared-seen-requires
 compared-seen-requires c =
     let i = in-numbered (goal.at.compared-seen-requires c).After-numbered-label in
     let h = claimed (from_start i) in
-    record { pos_bound = ((h.r-period, (h.claim, claim-standing h i.loop-t.invariant.1.1))).0; stands = ((h.r-period, (h.claim, claim-standing h i.loop-t.invariant.1.1))).1; standing = ((h.r-period, (h.claim, claim-standing h i.loop-t.invariant.1.1))).2 }
+    record { pos_bound = h.r-period; stands = h.claim; standing = claim-standing h i.loop-t.invariant.1.1 }
 
 pub overflow_add-t : goal.overflow_add-t
 overflow_add-t c =
     let i = in-numbered (goal.at.overflow_add-t c).After-numbered-label in
-    omega (arith, i.loop-t-test.taken, (from_start i).fits.period)
+    omega (arith, i.loop-t-test.true, (from_start i).ranges.period)
 
 pub loop-t-smaller : goal.loop-t-smaller
-loop-t-smaller c = omega (arith, (in-numbered (goal.at.loop-t-smaller c).After-numbered-label).loop-test.true)
+loop-t-smaller c = omega (arith, (in-numbered (goal.at.loop-t-smaller c).After-numbered-label).loop-t-test.true)
 
 pub loop-t-preserved : goal.loop-t-preserved
 loop-t-preserved c =
@@ -239,7 +238,7 @@ loop-t-preserved c =
       counted k,
       (
         next-cursor (goal.at.After-next_counted-k k).After-cursor_next-cursor,
-        c.compared-seen.ensures _ _ i.loop-t.invariant.1.1 (claim-inside (claimed s) i.loop-t-test.taken) (label_is x) (sym n.in_limits.ensures ∙ not-false _ e.if-not-in_limits.false-raw),
+        c.compared-seen.ensures _ _ i.loop-t.invariant.1.1 (claim-inside (claimed s) i.loop-t-test.true) (label_is x) (sym n.in_limits.ensures ∙ not-false _ e.if-not-in_limits.false-raw),
       ),
     )
 

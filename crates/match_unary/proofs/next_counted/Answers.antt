@@ -11,29 +11,29 @@ use Rattle.integers.proofs.Machine.{plain, test-eq}
 use Rattle.cursors.specs.Found.{found}
 use Rattle.match_unary.proofs.Counting.{counts_past, counts_same, counts-next}
 use Rattle.match_unary.proofs.next_counted.Goals as goal
-use Rattle.match_unary.proofs.next_counted.Goals.{After-struct_told-1, In-At-2, Start}
+use Rattle.match_unary.proofs.next_counted.Goals.{After-struct_told-1, In-At, Start}
 
 -- the label, and the last one before it
 abbrev start : After-struct_told-1 → Start
 start c = (goal.at.After-struct_told-1 c).Start
 
-label_is : (c : After-struct_told-1) → let l = (goal.at.After-struct_told-1 c).In-At-2 in found (start c).args.label ≡ some l.label-1.given.0.0
-label_is c = ap found c.label-1.given.1
+label_is : (c : After-struct_told-1) → let l = (goal.at.After-struct_told-1 c).In-At in found (start c).args.label ≡ some l.in-At.j
+label_is c = ap found c.in-At.is
 
-label-fits : (c : After-struct_told-1) → SFits w64 c.label-1.given.0.0
-label-fits c = sfits_of c.known_told-1.given.0.1
+label-fits : (c : After-struct_told-1) → SFits w64 c.in-At.j
+label-fits c = search rules
 
-is_last : (c : After-struct_told-1) → let j = c.label-1.given.0.0 in
+is_last : (c : After-struct_told-1) → let j = c.in-At.j in
     (of_z w64 j ≡ of_z w64 (start c).args.k.last) ↔ (j ≡ (start c).args.k.last)
-is_last c = test-eq w64 _ _ (label-fits c) (sfits_of c.struct_told-1.given.0.1)
+is_last c = test-eq w64 _ _ (label-fits c) (search rules)
 
 pub next_number-requires : goal.next_number-requires
 next_number-requires c =
     let d = (goal.at.next_number-requires c).After-struct_told-1 in
     let s = start d in
     let j = label-fits d in
-    let n : SFits w64 s.args.k.number = sfits_of c.struct_told-else-j-k-1.given.1.0.1 in
-    record { numbers = (simp plain (s.requires.numbers, (s.requires.within, s.requires.within_2 _ (label_is d)))).0; within = (simp plain (s.requires.numbers, (s.requires.within, s.requires.within_2 _ (label_is d)))).1; within_2 = (simp plain (s.requires.numbers, (s.requires.within, s.requires.within_2 _ (label_is d)))).2 }
+    let n : SFits w64 s.args.k.number = search rules in
+    record { numbers = s.requires.numbers; within = simp plain s.requires.within; within_2 = simp plain (s.requires.within_2 _ (label_is d)) }
 
 pub returns-then-j-k : goal.returns-then-j-k
 returns-then-j-k c a t v k e = let d = (goal.at.returns-then-j-k c).After-struct_told-1 in counts_same v k _ (sym e ∙ label_is d) ((is_last d).0 c.if-j-k.true)
@@ -43,9 +43,9 @@ returns-else-j-k c a t v k e =
     let d = (goal.at.returns-else-j-k c).After-struct_told-1 in
     let s = start d in
     let j = label-fits d in
-    let n : SFits w64 s.args.k.number = sfits_of c.struct_told-else-j-k-1.given.1.0.1 in
+    let n : SFits w64 s.args.k.number = search rules in
     rw (to_z-of_z j, to_z-of_z {w = w64} (sfits_of c.next_number.type_inv))
     (counts-next v k _ _ (sym e ∙ label_is d) (λ q. c.if-j-k.false ((is_last d).1 q)) (simp plain at c.next_number.ensures))
 
 pub returns-in-Nothing : goal.returns-in-Nothing
-returns-in-Nothing c a t v k e = counts_past v k (sym e ∙ ap found c.enum_told-1.given.1)
+returns-in-Nothing c a t v k e = counts_past v k (sym e ∙ ap found c.in-Nothing.is)

@@ -3,7 +3,7 @@
 use borrow.Author.Rules.{rules, sfits_of}
 use mathlib.Core.Path.{sym, ◌∙◌, ap, subst}
 use native.Mathlib.Omega.{arith}
-use lib.IntN.{ℤ, pos, neg_ℤ, ◌+ℤ◌}
+use lib.IntN.{pos, neg_ℤ, ◌+ℤ◌}
 use lib.Signed.{◌≤ℤ◌}
 use mir.Facts.{to_z-of_z}
 use mir.Syntax.{w64}
@@ -15,36 +15,36 @@ use Rattle.kinds.specs.Operations.{Numbers}
 use Rattle.match_unary.specs.declared.Unary.{Unary}
 use Rattle.match_unary.specs.Numbered.{kind_of, next_number}
 use Rattle.match_unary.proofs.next_number.Goals as goal
-use Rattle.match_unary.proofs.next_number.Goals.{In-Group, In-Group-2, In-Shift, In-Shift-2, Start}
+use Rattle.match_unary.proofs.next_number.Goals.{In-Group, In-Shift, Start}
 
 -- ---- group
-group-limits : (c : In-Group-2) → (pos 1 ≤ℤ c.by-1.given.0.0) × (c.by-1.given.0.0 ≤ℤ million)
-group-limits c = subst (λ (u : Unary). Numbers (kind_of u)) c.by-1.given.1 c.requires.numbers
+group-limits : (c : In-Group) → (pos 1 ≤ℤ c.in-Group.x) × (c.in-Group.x ≤ℤ million)
+group-limits c = subst (λ (u : Unary). Numbers (kind_of u)) c.in-Group.is c.requires.numbers
 
-group-fits : (c : In-Group) → SFits w64 c.by-1.given.0.0
-group-fits c = sfits_of c.known_told-1.given.0.1
+group-fits : (c : In-Group) → SFits w64 c.in-Group.x
+group-fits c = search rules
 
 pub ceil_div-requires : goal.ceil_div-requires
 ceil_div-requires c =
     let x = group-fits c in
-    let h = group-limits (goal.at.ceil_div-requires c).In-Group-2 in
+    let h = group-limits (goal.at.ceil_div-requires c).In-Group in
     rw (to_z-of_z x) (h.0 ∴ simp ints (omega arith))
 
 -- ---- shift
-shift-limits : (c : In-Shift-2) → (neg_ℤ label_limit ≤ℤ c.by-in-Shift-1.given.0.0) × (c.by-in-Shift-1.given.0.0 ≤ℤ label_limit)
-shift-limits c = subst (λ (u : Unary). Numbers (kind_of u)) c.by-in-Shift-1.given.1 c.requires.numbers
+shift-limits : (c : In-Shift) → (neg_ℤ label_limit ≤ℤ c.in-Shift.x) × (c.in-Shift.x ≤ℤ label_limit)
+shift-limits c = subst (λ (u : Unary). Numbers (kind_of u)) c.in-Shift.is c.requires.numbers
 
-sum_fits : (c : In-Shift-2) → SFits w64 (c.args.j +ℤ c.by-in-Shift-1.given.0.0)
+sum_fits : (c : In-Shift) → SFits w64 (c.args.j +ℤ c.in-Shift.x)
 sum_fits c = let h = shift-limits c in h ∴ c.requires.within_2 ∴ simp ints (omega arith)
 
-shift_fits : (c : In-Shift) → SFits w64 c.by-in-Shift-1.given.0.0
-shift_fits c = sfits_of c.known_told-in-Shift-1.given.0.1
+shift_fits : (c : In-Shift) → SFits w64 c.in-Shift.x
+shift_fits c = search rules
 
 pub overflow_add-result : goal.overflow_add-result
 overflow_add-result c =
     let x = shift_fits c in
     let j = c.ranges.j in
-    rw (to_z-of_z j, to_z-of_z x) (sum_fits (goal.at.overflow_add-result c).In-Shift-2)
+    rw (to_z-of_z j, to_z-of_z x) (sum_fits (goal.at.overflow_add-result c).In-Shift)
 
 -- ---- renumber
 more-fits : (s : Start) → SFits w64 (s.args.number +ℤ pos 1)
@@ -62,19 +62,19 @@ returns-in-Group c =
     let s = (goal.at.In-Group k).Start in
     let x = group-fits k in
     let j = s.ranges.j in
-    to_z-of_z {w = w64} (sfits_of c.ceil_div.type_inv) ∙ simp plain at c.ceil_div.ensures ∙ sym (ap (λ (u : Unary). next_number u s.args.number s.args.j) k.by-1.given.1)
+    to_z-of_z {w = w64} (sfits_of c.ceil_div.type_inv) ∙ simp plain at c.ceil_div.ensures ∙ sym (ap (λ (u : Unary). next_number u s.args.number s.args.j) k.in-Group.is)
 
 pub returns-in-Shift : goal.returns-in-Shift
 returns-in-Shift c =
     let s = (goal.at.returns-in-Shift c).Start in
     let x = shift_fits c in
     let j = s.ranges.j in
-    let f = sum_fits (goal.at.returns-in-Shift c).In-Shift-2 in
-    simp plain (sym (ap (λ (u : Unary). next_number u s.args.number s.args.j) c.by-in-Shift-1.given.1))
+    let f = sum_fits (goal.at.returns-in-Shift c).In-Shift in
+    simp plain (sym (ap (λ (u : Unary). next_number u s.args.number s.args.j) c.in-Shift.is))
 
 pub returns-in-Renumber : goal.returns-in-Renumber
 returns-in-Renumber c =
     let s = (goal.at.returns-in-Renumber c).Start in
     let n = s.ranges.number in
     let f = more-fits s in
-    simp plain (sym (ap (λ (u : Unary). next_number u s.args.number s.args.j) c.enum_told-1.given.1))
+    simp plain (sym (ap (λ (u : Unary). next_number u s.args.number s.args.j) c.in-Renumber.is))

@@ -1,6 +1,5 @@
 -- `match_unary::numbered` meets its contract: a number where there is a label.
 -- Assumes nothing.
-use borrow.Author.Rules.{rules}
 use mathlib.Core.Path.{sym, ◌∙◌, ap}
 use mathlib.Core.Option.{some, map}
 use mir.Facts.{to_z-of_z}
@@ -12,4 +11,4 @@ use Rattle.match_unary.proofs.numbered.Goals.{Start}
 pub returns-in-At : goal.returns-in-At
 returns-in-At c =
     let s = (goal.at.returns-in-At c).Start in
-    ap some (to_z-of_z s.ranges.number) ∙ sym (ap (λ (l : Found). map (λ j. s.args.number) (found l)) c.enum_told-1.given.1)
+    ap some (to_z-of_z s.ranges.number) ∙ sym (ap (λ (l : Found). map (λ j. s.args.number) (found l)) c.in-At.is)
