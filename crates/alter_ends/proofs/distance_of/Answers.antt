@@ -43,28 +43,16 @@ pub alter_distance-requires : goal.alter_distance-requires
 alter_distance-requires c =
     let s = (goal.at.alter_distance-requires c).Start in
     let p = s.requires in
-    record { stored = (rw ((period s).is, (distance s).is, to_z-of_z (fine-fits c), (coarse (goal.at.alter_distance-requires c).After-struct_told-1).is) (
-      record {
+    let r = (coarse (goal.at.alter_distance-requires c).After-struct_told-1).is in
+    record {
+      stored = rw ((period s).is, (distance s).is) record {
         positive = (distance s).positive;
         distance-at-most = up_le {z = s.args.distance} {n = up s.args.period} (p.dense ∴ pos-up {z = s.args.period} (p.distance-low ∴ p.dense ∴ simp ints (omega arith)) ∴ simp ints (omega arith));
         period-at-most = up_le p.period-high;
-      },
-      (p.fine-low, up_le p.coarse-high),
-    )).0; pos_bound = (rw ((period s).is, (distance s).is, to_z-of_z (fine-fits c), (coarse (goal.at.alter_distance-requires c).After-struct_told-1).is) (
-      record {
-        positive = (distance s).positive;
-        distance-at-most = up_le {z = s.args.distance} {n = up s.args.period} (p.dense ∴ pos-up {z = s.args.period} (p.distance-low ∴ p.dense ∴ simp ints (omega arith)) ∴ simp ints (omega arith));
-        period-at-most = up_le p.period-high;
-      },
-      (p.fine-low, up_le p.coarse-high),
-    )).1; coarse_le_most_coarse = (rw ((period s).is, (distance s).is, to_z-of_z (fine-fits c), (coarse (goal.at.alter_distance-requires c).After-struct_told-1).is) (
-      record {
-        positive = (distance s).positive;
-        distance-at-most = up_le {z = s.args.distance} {n = up s.args.period} (p.dense ∴ pos-up {z = s.args.period} (p.distance-low ∴ p.dense ∴ simp ints (omega arith)) ∴ simp ints (omega arith));
-        period-at-most = up_le p.period-high;
-      },
-      (p.fine-low, up_le p.coarse-high),
-    )).2 }
+      };
+      pos_bound = rw (to_z-of_z (fine-fits c)) p.fine-low;
+      coarse_le_most_coarse = rw r (up_le p.coarse-high);
+    }
 
 -- the distance
 is-distance : (c : After-alter_distance) → let r = c.args in

@@ -1,6 +1,6 @@
 -- `alter_ends::end_labels` meets its contract: the walk finds the altered granule of a's first granule from 0 on, and that of its last one before 0.
 -- Assumes nothing.
-use borrow.Author.Rules.{rules, sfits_of}
+use borrow.Author.Rules.{sfits_of}
 use mathlib.Core.Path.{◌≡◌, sym, ◌∙◌, ap, subst, subst₂, ap₂}
 use mathlib.Core.Bool.{true}
 use mathlib.Core.List.{List}
@@ -22,7 +22,7 @@ use Rattle.cursors.specs.Found.{Within}
 use Rattle.cursors.proofs.Numbers.{read_as, numbers}
 use Rattle.kinds.specs.declared.Alteration.{Alteration}
 use Rattle.kinds.specs.declared.Operand.{Operand}
-use Rattle.kinds.specs.Stands.{end, row_in}
+use Rattle.kinds.specs.Stands.{row_in}
 use Rattle.alter_granules.specs.declared.Repeat.{Repeat}
 use Rattle.alter_granules.specs.declared.ahead.Walk.{Walk}
 use Rattle.alter_granules.specs.declared.origin.Labelled.{Labelled}
@@ -94,13 +94,13 @@ lent_back : (c : Told) (P : Row → Row → Type 0) → P (A' c) (B' c) → P (A
 lent_back c P p = same_rows P (a-is c) (b-is c) p
 
 given : (c : Told) → Alterable (by c) (rep c) (A c) (B c)
-given c = (entry c).requires.0
+given c = (entry c).requires.alterable
 
 a-sound : (c : Told) → sound (A c) ≡ true
-a-sound c = (entry c).requires.1.a-stands.is-sound
+a-sound c = (entry c).requires.lies.a-stands.is-sound
 
 b-sound : (c : Told) → sound (B c) ≡ true
-b-sound c = (entry c).requires.1.b-stands.is-sound
+b-sound c = (entry c).requires.lies.b-stands.is-sound
 
 -- ---- the first granule
 pub first_labelled-j-requires : goal.first_labelled-j-requires
@@ -126,10 +126,13 @@ abbrev j-of : Opened → ℤ
 j-of c = to_z w64 (of_z w64 (first c).j)
 
 j-read : (c : Opened) → j-of c ≡ (first c).j
-j-read c = to_z-of_z (j-fits c)
+j-read c = to_z-of_z {w = w64} (j-fits c)
 
 pub start_walk-start-requires : goal.start_walk-start-requires
-start_walk-start-requires c = let d = told c in record { sound = (lends d (λ x y. (sound x ≡ true) × ((sound y ≡ true) × Alterable (by d) (rep d) x y)) (a-sound d, (b-sound d, given d))).0; sound_2 = (lends d (λ x y. (sound x ≡ true) × ((sound y ≡ true) × Alterable (by d) (rep d) x y)) (a-sound d, (b-sound d, given d))).1; alterable = (lends d (λ x y. (sound x ≡ true) × ((sound y ≡ true) × Alterable (by d) (rep d) x y)) (a-sound d, (b-sound d, given d))).2 }
+start_walk-start-requires c =
+    let d = told c in
+    let k = lends d (λ x y. (sound x ≡ true) × (sound y ≡ true) × Alterable (by d) (rep d) x y) (a-sound d, b-sound d, given d) in
+    record { sound = k.0; sound_2 = k.1; alterable = k.2 }
 
 abbrev Started : Type 0
 Started = After-start_walk-start
@@ -161,22 +164,19 @@ advance_to-walk-requires c =
     let e = opens-same (A d) s.first (first o) s.opens (opens o) in
     let low : begins (by d) (A d) (B d) w.label ≤ℤ j-of o = s.reached ∴ e ∴ j-read o ∴ simp ints (omega arith) in
     let high : j-of o <ℤ w.end = ends_at c ∴ j-read o ∴ n.coarse-low ∴ n.middle ∴ simp ints (omega arith) in
-    record { sound = (lends d (λ x y. (sound x ≡ true) × ((sound y ≡ true) × (Altering (by d) x y × (CoarseWalk (by d) x y w × ((begins (by d) x y w.label ≤ℤ j-of o) × (j-of o <ℤ w.end))))))
-    (a-sound d, (b-sound d, ((rep d, given d), (s.walk, (low, high)))))).0; sound_2 = (lends d (λ x y. (sound x ≡ true) × ((sound y ≡ true) × (Altering (by d) x y × (CoarseWalk (by d) x y w × ((begins (by d) x y w.label ≤ℤ j-of o) × (j-of o <ℤ w.end))))))
-    (a-sound d, (b-sound d, ((rep d, given d), (s.walk, (low, high)))))).1; altering = (lends d (λ x y. (sound x ≡ true) × ((sound y ≡ true) × (Altering (by d) x y × (CoarseWalk (by d) x y w × ((begins (by d) x y w.label ≤ℤ j-of o) × (j-of o <ℤ w.end))))))
-    (a-sound d, (b-sound d, ((rep d, given d), (s.walk, (low, high)))))).2; coarse_walk = (lends d (λ x y. (sound x ≡ true) × ((sound y ≡ true) × (Altering (by d) x y × (CoarseWalk (by d) x y w × ((begins (by d) x y w.label ≤ℤ j-of o) × (j-of o <ℤ w.end))))))
-    (a-sound d, (b-sound d, ((rep d, given d), (s.walk, (low, high)))))).3; label_bound = (lends d (λ x y. (sound x ≡ true) × ((sound y ≡ true) × (Altering (by d) x y × (CoarseWalk (by d) x y w × ((begins (by d) x y w.label ≤ℤ j-of o) × (j-of o <ℤ w.end))))))
-    (a-sound d, (b-sound d, ((rep d, given d), (s.walk, (low, high)))))).4 }
+    let q = lends d (λ x y. (sound x ≡ true) × (sound y ≡ true) × Altering (by d) x y × CoarseWalk (by d) x y w × ((begins (by d) x y w.label ≤ℤ j-of o) × (j-of o <ℤ w.end)))
+    (a-sound d, b-sound d, (rep d, given d), s.walk, (low, high)) in
+    record { sound = q.0; sound_2 = q.1; altering = q.2; coarse_walk = q.3; label_bound = q.4 }
 
 -- ---- the distance, and the last granule before 0
 turning-of : (c : Told) → Turning (entry c).args.a.period (entry c).args.a.distance (rep c)
 turning-of c =
     let a = (entry c).args.a in
     let b = (entry c).args.b in
-    turning (by c) (rep c) a.period a.distance (A c).cells b.period b.distance (B c).cells (a-sound c) (b-sound c) (given c) (entry c).requires.1.few
+    turning (by c) (rep c) a.period a.distance (A c).cells b.period b.distance (B c).cells (a-sound c) (b-sound c) (given c) (entry c).requires.lies.few
 
 pub distance_of-distance-requires : goal.distance_of-distance-requires
-distance_of-distance-requires c = let d = told (goal.at.distance_of-distance-requires c).After-struct_told-5-1 in rw (to_z-of_z (a-fits d).0, to_z-of_z (a-fits d).1) (turning-of d)
+distance_of-distance-requires c = let d = told (goal.at.distance_of-distance-requires c).After-struct_told-5-1 in rw (to_z-of_z {w = w64} (a-fits d).0, to_z-of_z {w = w64} (a-fits d).1) (turning-of d)
 
 pub last_before-requires : goal.last_before-requires
 last_before-requires c = let d = told (goal.at.last_before-requires c).After-struct_told-5-1 in lends d (λ x y. sound x ≡ true) (a-sound d)
@@ -199,7 +199,7 @@ walked c =
     let d = base c in
     let o = opened_of c in
     let s = c.start_walk-start.result in
-    lent_back d (λ x y. CoarseWalk (by d) x y (walk c) × (Holds (by d) x y (first o).j (walk c).label × ((walk c).end ≡ s.end))) (rw (j-read o) at c.advance_to-walk.ensures)
+    lent_back d (λ x y. CoarseWalk (by d) x y (walk c) × (Holds (by d) x y (first o).j (walk c).label × ((walk c).end ≡ s.end))) (c.advance_to-walk.ensures.walks, (rw (j-read o) at c.advance_to-walk.ensures.has, c.advance_to-walk.ensures.end))
 
 label-near : (c : Known) (w : Walk) → let d = base c in CoarseWalk (by d) (A d) (B d) w → Within (2 ^ 56) w.label
 label-near c w h =
@@ -220,7 +220,7 @@ rise-is c =
     let d = base c in
     let a = (entry d).args.a in
     let b = (entry d).args.b in
-    (rw (to_z-of_z (a-fits d).0, to_z-of_z (a-fits d).1) at c.distance_of-distance.ensures)
+    (rw (to_z-of_z {w = w64} (a-fits d).0, to_z-of_z {w = w64} (a-fits d).1) at c.distance_of-distance.ensures)
     ∙ ap pos (rises (by d) (rep d) a.period a.distance (A d).cells b.period b.distance (B d).cells (a-sound d) (b-sound d) (given d))
 
 rise-low : (c : Known) → rise c ≤ pool_limit
@@ -231,7 +231,7 @@ rise-low c =
     omega (arith, (turning-of d).few, rises (by d) (rep d) a.period a.distance (A d).cells b.period b.distance (B d).cells (a-sound d) (b-sound d) (given d))
 
 rise-read : (c : Known) → to_z w64 (of_z w64 c.distance_of-distance.result) ≡ pos (rise c)
-rise-read c = let q = rise-low c in read_as (rise-is c) (simp ints (omega arith))
+rise-read c = let q = rise-low c in read_as {w = w64} (rise-is c) (simp ints (omega arith))
 
 -- the last label of a before 0
 last-is : (c : Known) → to_z w64 (of_z w64 c.last_before.result) ≡ anchored (A (base c)) (negsuc 0)
@@ -261,7 +261,7 @@ abbrev sum : Known → ℤ
 sum c = to_z w64 (of_z w64 (walk c).label) +ℤ to_z w64 (of_z w64 c.distance_of-distance.result)
 
 sum_is : (c : Known) → sum c ≡ (walk c).label +ℤ pos (rise c)
-sum_is c = ap₂ ◌+ℤ◌ (to_z-of_z (label-fits c)) (rise-read c)
+sum_is c = ap₂ ◌+ℤ◌ (to_z-of_z {w = w64} (label-fits c)) (rise-read c)
 
 sum_fits : (c : Known) → SFits w64 ((walk c).label +ℤ pos (rise c))
 sum_fits c = label-near c (walk c) (walked c).0 ∴ rise-low c ∴ simp ints (omega arith)
@@ -275,7 +275,7 @@ returns-then-j-last_before c =
     let o = opened_of k in
     let d = base k in
     let h = subst₂ ◌≤ℤ◌ (j-read o) (last-is k) ((test-le _ _).0 c.if-j-last_before.true) in
-    ends_of k _ _ _ (walk k).label (to_z-of_z (label-fits k)) (read_as (sum_is k) (sum_fits k)) (last-same (by d) (rep d) (A d) (B d) (given d) (first o) (opens o) h (walk k).label (walked k).1.0)
+    ends_of k _ _ _ (walk k).label (to_z-of_z {w = w64} (label-fits k)) (read_as {w = w64} (sum_is k) (sum_fits k)) (last-same (by d) (rep d) (A d) (B d) (given d) (first o) (opens o) h (walk k).label (walked k).1.0)
 
 -- ---- it is the one before
 abbrev Other : Type 0
@@ -300,7 +300,7 @@ abbrev on : Opened → ℤ
 on c = (first c).j +ℤ (rep (told c)).fine
 
 on-made : (c : Opened) → j-of c +ℤ to_z w64 (of_z w64 (rep (told c)).fine) ≡ on c
-on-made c = ap₂ ◌+ℤ◌ (j-read c) (to_z-of_z (fine-fits (told c)))
+on-made c = ap₂ ◌+ℤ◌ (j-read c) (to_z-of_z {w = w64} (fine-fits (told c)))
 
 on_fits : (c : Opened) → SFits w64 (on c) × SFits w64 (on c -ℤ pos 1)
 on_fits c =
@@ -315,13 +315,13 @@ abbrev less : Opened → ℤ
 less c = to_z w64 (of_z w64 (j-of c +ℤ to_z w64 (of_z w64 (rep (told c)).fine))) -ℤ pos 1
 
 less-is : (c : Opened) → less c ≡ on c -ℤ pos 1
-less-is c = ap (λ (z : ℤ). z -ℤ pos 1) (read_as (on-made c) (on_fits c).0)
+less-is c = ap (λ (z : ℤ). z -ℤ pos 1) (read_as {w = w64} (on-made c) (on_fits c).0)
 
 pub overflow_sub-j : goal.overflow_sub-j
 overflow_sub-j c = let o = opened_of (other-of c) in subst (SFits w64) (sym (less-is o)) (on_fits o).1
 
 less-read : (c : Opened) → to_z w64 (of_z w64 (less c)) ≡ on c -ℤ pos 1
-less-read c = read_as (less-is c) (on_fits c).1
+less-read c = read_as {w = w64} (less-is c) (on_fits c).1
 
 pub advance_to-end-requires : goal.advance_to-end-requires
 advance_to-end-requires c =
@@ -334,12 +334,9 @@ advance_to-end-requires c =
     let z = to_z w64 (of_z w64 (less o)) in
     let low : begins (by d) (A d) (B d) w.label ≤ℤ z = h.1.0.0 ∴ less-read o ∴ n.coarse-low ∴ n.middle ∴ simp ints (omega arith) in
     let high : z <ℤ w.end = h.1.1 ∴ ends_at (goal.at.After-last_before k).After-start_walk-start ∴ less-read o ∴ simp ints (omega arith) in
-    record { sound = (lends d (λ x y. (sound x ≡ true) × ((sound y ≡ true) × (Altering (by d) x y × (CoarseWalk (by d) x y w × ((begins (by d) x y w.label ≤ℤ z) × (z <ℤ w.end))))))
-    (a-sound d, (b-sound d, ((rep d, given d), (h.0, (low, high)))))).0; sound_2 = (lends d (λ x y. (sound x ≡ true) × ((sound y ≡ true) × (Altering (by d) x y × (CoarseWalk (by d) x y w × ((begins (by d) x y w.label ≤ℤ z) × (z <ℤ w.end))))))
-    (a-sound d, (b-sound d, ((rep d, given d), (h.0, (low, high)))))).1; altering = (lends d (λ x y. (sound x ≡ true) × ((sound y ≡ true) × (Altering (by d) x y × (CoarseWalk (by d) x y w × ((begins (by d) x y w.label ≤ℤ z) × (z <ℤ w.end))))))
-    (a-sound d, (b-sound d, ((rep d, given d), (h.0, (low, high)))))).2; coarse_walk = (lends d (λ x y. (sound x ≡ true) × ((sound y ≡ true) × (Altering (by d) x y × (CoarseWalk (by d) x y w × ((begins (by d) x y w.label ≤ℤ z) × (z <ℤ w.end))))))
-    (a-sound d, (b-sound d, ((rep d, given d), (h.0, (low, high)))))).3; label_bound = (lends d (λ x y. (sound x ≡ true) × ((sound y ≡ true) × (Altering (by d) x y × (CoarseWalk (by d) x y w × ((begins (by d) x y w.label ≤ℤ z) × (z <ℤ w.end))))))
-    (a-sound d, (b-sound d, ((rep d, given d), (h.0, (low, high)))))).4 }
+    let q = lends d (λ x y. (sound x ≡ true) × (sound y ≡ true) × Altering (by d) x y × CoarseWalk (by d) x y w × ((begins (by d) x y w.label ≤ℤ z) × (z <ℤ w.end)))
+    (a-sound d, b-sound d, (rep d, given d), h.0, (low, high)) in
+    record { sound = q.0; sound_2 = q.1; altering = q.2; coarse_walk = q.3; label_bound = q.4 }
 
 abbrev Closed : Type 0
 Closed = After-advance_to-end
@@ -355,8 +352,8 @@ closed : (c : Closed) → let d = base (known_of c) in
 closed c =
     let d = base (known_of c) in
     let o = opened_of (known_of c) in
-    let e = rw (less-read o) at c.advance_to-end.ensures in
-    lent_back d (λ x y. CoarseWalk (by d) x y (close c) × Holds (by d) x y (on o -ℤ pos 1) (close c).label) (e.0, e.1.0)
+    let e = c.advance_to-end.ensures in
+    lent_back d (λ x y. CoarseWalk (by d) x y (close c) × Holds (by d) x y (on o -ℤ pos 1) (close c).label) (e.walks, rw (less-read o) at e.has)
 
 -- n less, and then the distance more
 abbrev back : Closed → ℤ
@@ -370,7 +367,7 @@ back_is c =
     let n = turns (base (known_of c)) in
     let f : SFits w64 (close c).label = label-near (known_of c) (close c) (closed c).0 ∴ simp ints (omega arith) in
     let g : SFits w64 (rep (base (known_of c))).coarse = n.coarse-low ∴ n.middle ∴ n.fine-high ∴ simp ints (omega arith) in
-    ap₂ ◌-ℤ◌ (to_z-of_z f) (to_z-of_z g)
+    ap₂ ◌-ℤ◌ (to_z-of_z {w = w64} f) (to_z-of_z {w = w64} g)
 
 back-near : (c : Closed) → Within (2 ^ 57) (back c)
 back-near c =
@@ -381,10 +378,10 @@ back_fits : (c : Closed) → SFits w64 (back c)
 back_fits c = back-near c ∴ simp ints (omega arith)
 
 abbrev total : Closed → ℤ
-total c = to_z w64 (of_z w64 (back-made c)) +ℤ to_z w64 (of_z w64 (known_of c).before.distance-of.result)
+total c = to_z w64 (of_z w64 (back-made c)) +ℤ to_z w64 (of_z w64 (known_of c).distance_of-distance.result)
 
 total-is : (c : Closed) → total c ≡ back c +ℤ pos (rise (known_of c))
-total-is c = ap₂ ◌+ℤ◌ (read_as (back_is c) (back_fits c)) (rise-read (known_of c))
+total-is c = ap₂ ◌+ℤ◌ (read_as {w = w64} (back_is c) (back_fits c)) (rise-read (known_of c))
 
 total-fits : (c : Closed) → SFits w64 (back c +ℤ pos (rise (known_of c)))
 total-fits c = back-near c ∴ rise-low (known_of c) ∴ simp ints (omega arith)
@@ -404,5 +401,5 @@ returns c =
     let k = known_of x in
     let o = opened_of k in
     let d = base k in
-    let h = subst₂ ◌<ℤ◌ (last-is k) (j-read o) ((test-not-le _ _).0 x.if-j-last_before.left) in
-    ends_of k _ _ _ (back x) (to_z-of_z (label-fits k)) (read_as (total-is x) (total-fits x)) (last-other (by d) (rep d) (A d) (B d) (given d) (first o) (opens o) h (close x).label (closed x).1)
+    let h = subst₂ ◌<ℤ◌ (last-is k) (j-read o) ((test-not-le _ _).0 x.if-j-last_before.false) in
+    ends_of k _ _ _ (back x) (to_z-of_z {w = w64} (label-fits k)) (read_as {w = w64} (total-is x) (total-fits x)) (last-other (by d) (rep d) (A d) (B d) (given d) (first o) (opens o) h (close x).label (closed x).1)

@@ -1,7 +1,6 @@
 -- `alter_ends::in_limits` meets its contract: both ends of the working row are within the limits.
 -- Assumes nothing.
-use borrow.Author.Rules.{rules, sfits_of}
-use borrow.Author.Tests.{not-true, not-false}
+use borrow.Author.Rules.{sfits_of}
 use mathlib.Core.Path.{◌≡◌, sym, ◌∙◌, ap}
 use mathlib.Core.Bool.{◌&&◌}
 use mir.Facts.{to_z-of_z}
@@ -28,13 +27,13 @@ decided c = limits_of (o c) (right (o c) c.requires.alterable.ready) c.end_label
 first-is : (c : After-in_range) → c.in_range.result ≡ in_range c.end_labels-ends.result.first
 first-is c =
     let f : SFits w64 c.end_labels-ends.result.first = sfits_of c.struct_told-1.given.0.1 in
-    c.in_range.ensures ∙ ap in_range (to_z-of_z f)
+    c.in_range.ensures ∙ ap in_range (to_z-of_z {w = w64} f)
 
 pub returns-then-not-in_range : goal.returns-then-not-in_range
 returns-then-not-in_range c =
     let k = (goal.at.returns-then-not-in_range c).After-in_range in
     let e = (goal.at.After-in_range k).After-end_labels-ends in
-    sym (decided e ∙ ap (λ b. b && in_range e.end_labels-ends.result.last) (sym (first-is k) ∙ not-true _ c.if-not-in_range.true-raw))
+    sym (decided e ∙ ap (λ b. b && in_range e.end_labels-ends.result.last) (sym (first-is k) ∙ c.if-not-in_range.true))
 
 pub returns : goal.returns
 returns c =
@@ -43,5 +42,5 @@ returns c =
     let e = (goal.at.After-in_range k).After-end_labels-ends in
     let f : SFits w64 e.end_labels-ends.result.last = sfits_of d.struct_told-2-1.given.1.0.1 in
     c.in_range-2.ensures
-    ∙ ap in_range (to_z-of_z f)
-    ∙ sym (decided e ∙ ap (λ b. b && in_range e.end_labels-ends.result.last) (sym (first-is k) ∙ not-false _ d.if-not-in_range.false-raw))
+    ∙ ap in_range (to_z-of_z {w = w64} f)
+    ∙ sym (decided e ∙ ap (λ b. b && in_range e.end_labels-ends.result.last) (sym (first-is k) ∙ d.if-not-in_range.false))
