@@ -1,7 +1,8 @@
 -- `candidates::candidate::candidate_at` meets its contract: by what t says of b's granule, and then whether a's granule is in question.
 -- Assumes nothing.
 use borrow.Author.Rules.{rules}
-use mathlib.Core.Path.{◌≡◌, sym, ◌∙◌, subst}
+use mathlib.Core.Option.{some}
+use mathlib.Core.Path.{◌≡◌, sym, ◌∙◌, ap, subst}
 use mathlib.Core.Logic.{inl, inr}
 use lib.IntN.{ℤ}
 use mir.Facts.{to_z-of_z}
@@ -53,6 +54,12 @@ label-fits c = search rules
 
 labels : (c : In-Of) → Says (goal.at.In-Of c).After-seen_at-seen (Of (label c))
 labels c = let d = (goal.at.In-Of c).After-seen_at-seen in subst (Says d) c.in-Of.is (says d)
+
+pub returns-then-j-latest : goal.returns-then-j-latest
+returns-then-j-latest c =
+    let d = (goal.at.returns-then-j-latest c).In-Of in
+    let y = labels d in
+    inr (y.0, inr (c.if-looked.true, y.1 ∙ ap some ((test-eq w64 _ _ (label-fits d) (start d).ranges.latest).0 c.if-j-latest.true)))
 
 -- ---- whether that is in question
 abbrev place : In-Of → CursorPair

@@ -58,3 +58,11 @@ returns-clause-near c =
     let d = (goal.at.returns-clause-near c).After-first_instant-at in
     let v = fits d in
     simp plain (near d)
+
+pub returns-clause-at : goal.returns-clause-at
+returns-clause-at c =
+    let d = (goal.at.returns-clause-at c).After-first_instant-at in
+    let v = fits d in
+    let p = c.ranges.g_period in
+    let n = c.ranges.g_distance in
+    simp plain (end_is d)
