@@ -6,7 +6,7 @@ use Prim.Native.Nat.{ℕ, zero, suc, ◌+◌, ◌-◌, ◌≤◌, ◌<◌}
 use native.Mathlib.Numerals.{add-one, unary_clauses}
 use native.Mathlib.Omega.{arith}
 use lib.IntN.{ℤ, pos}
-use lib.ListN.{length, get_or, set, take, replicate, length-replicate, length-take}
+use lib.ListN.{length, get_or, set, take, replicate, length-take}
 use lib.Seq.{take_all}
 use Rattle.calendar.specs.Lists.{filled}
 use Rattle.batches.specs.Front.{front}

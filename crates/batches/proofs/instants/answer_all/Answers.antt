@@ -1,11 +1,10 @@
 -- `batches::instants::answer_all` meets its contract. The loop's invariant: the front of each list has the answers to the
 -- first i instants.
-use borrow.Author.Rules.{rules, sfits_of}
-use mathlib.Core.Path.{◌≡◌, refl, sym, ◌∙◌, ap}
-use Prim.Native.Nat.{◌≤◌, ◌<◌, ◌-◌}
+use borrow.Author.Rules.{sfits_of}
+use mathlib.Core.Path.{◌≡◌, refl, ◌∙◌, ap}
 use native.Mathlib.Omega.{arith}
-use lib.IntN.{ℤ, pos}
-use lib.ListN.{length, take, get_or}
+use lib.IntN.{pos}
+use lib.ListN.{length, get_or}
 use mir.Syntax.{w64}
 use mir.Val.{to_z, of_z}
 use mir.Facts.{to_z-of_z}
@@ -15,7 +14,6 @@ use Rattle.calendar.specs.Questions.{given, up_from_instant}
 use Rattle.questions.specs.Answers.{placed_reply}
 use Rattle.questions_api.specs.Codes.{placed_code, placed_label, placed_place}
 use Rattle.questions_api.proofs.Places.{place-small}
-use Rattle.batches.specs.Front.{front}
 use Rattle.batches.proofs.Fronts.{front-more, front-all, front-whole}
 use Rattle.batches.proofs.instants.answer_all.Invariants.{code, label, place}
 use Rattle.batches.proofs.instants.answer_all.Goals as goal
@@ -40,9 +38,6 @@ whole c =
 pub loop-i-init : goal.loop-i-init
 loop-i-init c = (omega arith, refl, refl, refl)
 
-pub offset_bounds-ts-i : goal.offset_bounds-ts-i
-offset_bounds-ts-i c = omega (arith, c.well-formed.0.1)
-
 pub asked-placing-requires : goal.asked-placing-requires
 asked-placing-requires c = c.sound-sound.ensures
 
@@ -50,29 +45,20 @@ replied : (c : After-asked-placing) → let a = (goal.at.After-asked-placing c).
     placed_reply c.asked-placing.result ≡ up_from_instant (row s) (get_or s.args.ts.now a.loop-i.i (pos 0))
 replied c =
     let s = (goal.at.After-asked-placing c).Start in
-    c.asked-placing.ensures ∙ ap (up_from_instant (row s)) (to_z-of_z (sfits_of c.asked-arg-1.given))
+    c.asked-placing.ensures ∙ ap (up_from_instant (row s)) (to_z-of_z {w = w64} (sfits_of c.asked-arg-1.given))
 
 pub of_placing-requires : goal.of_placing-requires
 of_placing-requires c = rw (replied (goal.at.of_placing-requires c).After-asked-placing) (place-small _ _)
-
-pub offset_bounds-labels-i : goal.offset_bounds-labels-i
-offset_bounds-labels-i c = omega (arith, c.well-formed.0.1)
 
 pub bounds-labels-i : goal.bounds-labels-i
 bounds-labels-i c =
     let a = (goal.at.bounds-labels-i c).At-loop-i in
     omega (arith, (whole a).1, a.requires.ts_in_bounds_2, c.loop-i-test.true)
 
-pub offset_bounds-places-i : goal.offset_bounds-places-i
-offset_bounds-places-i c = offset_bounds-labels-i (goal.at.offset_bounds-places-i c).After-asked-placing
-
 pub bounds-places-i : goal.bounds-places-i
 bounds-places-i c =
     let a = (goal.at.bounds-places-i c).At-loop-i in
     omega (arith, (whole a).2, a.requires.ts_in_bounds_3, c.loop-i-test.true)
-
-pub offset_bounds-answers-i : goal.offset_bounds-answers-i
-offset_bounds-answers-i c = offset_bounds-labels-i (goal.at.offset_bounds-answers-i c).After-asked-placing
 
 pub bounds-answers-i : goal.bounds-answers-i
 bounds-answers-i c =
@@ -117,4 +103,4 @@ returns c =
     let x = front-all (code (row s)) ts _ i e v.1 in
     let y = front-all (label (row s)) ts _ i e v.2 in
     let z = front-all (place (row s)) ts _ i e v.3 in
-    record { answers = ((simp plain at x, (simp plain at y, simp plain at z))).0; labels = ((simp plain at x, (simp plain at y, simp plain at z))).1; places = ((simp plain at x, (simp plain at y, simp plain at z))).2 }
+    record { answers = simp plain at x; labels = simp plain at y; places = simp plain at z }

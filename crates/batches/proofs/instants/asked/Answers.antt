@@ -1,5 +1,5 @@
 -- `batches::instants::asked` meets its contract: 13, or what `checked::up_instant` says.
-use mathlib.Core.Path.{◌≡◌, sym, ◌∙◌}
+use mathlib.Core.Path.{sym, ◌∙◌}
 use borrow.Author.Tests.{not-false}
 use Rattle.integers.proofs.Machine.{plain}
 use Rattle.calendar.specs.Questions.{up_from_instant}

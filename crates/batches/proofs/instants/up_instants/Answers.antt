@@ -4,11 +4,12 @@ use borrow.Author.Rules.{rules, sfits_of}
 use mathlib.Core.Path.{◌≡◌, sym, ◌∙◌, ap}
 use mathlib.Core.Bool.{Bool, true, false}
 use mathlib.Core.List.{List, [], ◌∷◌}
-use Prim.Native.Nat.{ℕ, ◌≤◌}
+use Prim.Native.Nat.{ℕ, ◌≤◌, ◌<◌, ◌^◌}
 use native.Mathlib.Omega.{arith}
 use lib.IntN.{ℤ}
 use lib.ListN.{length}
 use mir.Facts.{to_z-of_z}
+use mir.Syntax.{w64}
 use Rattle.integers.proofs.Machine.{plain}
 use Rattle.calendar.specs.Meaning.{Row}
 use Rattle.calendar.specs.Questions.{given, up_from_instant}
@@ -58,25 +59,25 @@ abbrev places : After-places-1 → After-clear-3
 places p = (goal.at.After-places-1 p).After-clear-3
 
 same-lengths : (p : After-places-1) → let s = start p in
-    (length (codes p).clear.new.0 ≡ length s.args.codes.now) ×
-    (length (labels p).clear2.new.0 ≡ length s.args.labels.now) ×
-    (length (places p).clear3.new.0 ≡ length s.args.places.now)
+    (length (codes p).clear.new.parts ≡ length s.args.codes.now) ×
+    (length (labels p).clear-2.new.parts ≡ length s.args.labels.now) ×
+    (length (places p).clear-3.new.parts ≡ length s.args.places.now)
 same-lengths p =
-    (cleared-length _ (codes p).clear.ensures, cleared-length _ (labels p).clear2.ensures, cleared-length _ (places p).clear3.ensures)
+    (cleared-length _ (codes p).clear.ensures, cleared-length _ (labels p).clear-2.ensures, cleared-length _ (places p).clear-3.ensures)
 
 refusal : (s : Start) → roomy s ≡ false → refusal_code 17 ≡ batch_code (roomy s) s.args.ts.now
 refusal s e = sym (ap (λ (b : Bool). batch_code b s.args.ts.now) e)
 
 nothing : (p : After-places-1) → let s = start p in
     roomy s ≡ false
-    → ((codes p).clear.new.0 ≡ answers_left (roomy s) (length s.args.codes.now) (code s) s.args.ts.now) ×
-    (((labels p).clear2.new.0 ≡ answers_left (roomy s) (length s.args.labels.now) (label s) s.args.ts.now) ×
-    ((places p).clear3.new.0 ≡ answers_left (roomy s) (length s.args.places.now) (place s) s.args.ts.now))
+    → ((codes p).clear.new.parts ≡ answers_left (roomy s) (length s.args.codes.now) (code s) s.args.ts.now) ×
+    (((labels p).clear-2.new.parts ≡ answers_left (roomy s) (length s.args.labels.now) (label s) s.args.ts.now) ×
+    ((places p).clear-3.new.parts ≡ answers_left (roomy s) (length s.args.places.now) (place s) s.args.ts.now))
 nothing p e =
     let s = start p in
     let ts = s.args.ts.now in (
       left-none (code s) ts _ e (codes p).clear.ensures,
-      (left-none (label s) ts _ e (labels p).clear2.ensures, left-none (place s) ts _ e (places p).clear3.ensures),
+      (left-none (label s) ts _ e (labels p).clear-2.ensures, left-none (place s) ts _ e (places p).clear-3.ensures),
     )
 
 pub returns-then-codes-ts : goal.returns-then-codes-ts
@@ -84,7 +85,8 @@ returns-then-codes-ts c =
     let p = (goal.at.returns-then-codes-ts c).After-places-1 in
     let s = start p in
     let e : roomy s ≡ false = room-less (asked s) (length s.args.codes.now) (last-two s) (omega (arith, (same-lengths p).0, c.if-codes-ts.true)) in
-    record { answer = ((to_z-of_z {w = w64} (sfits_of c.refusal_code.type_inv) ∙ c.refusal_code.ensures ∙ refusal s e, nothing p e)).0; codes = ((to_z-of_z {w = w64} (sfits_of c.refusal_code.type_inv) ∙ c.refusal_code.ensures ∙ refusal s e, nothing p e)).1; labels = ((to_z-of_z {w = w64} (sfits_of c.refusal_code.type_inv) ∙ c.refusal_code.ensures ∙ refusal s e, nothing p e)).2; places = ((to_z-of_z {w = w64} (sfits_of c.refusal_code.type_inv) ∙ c.refusal_code.ensures ∙ refusal s e, nothing p e)).3 }
+    let n = nothing p e in
+    record { answer = to_z-of_z {w = w64} (sfits_of c.refusal_code.type_inv) ∙ c.refusal_code.ensures ∙ refusal s e; codes = n.0; labels = n.1.0; places = n.1.1 }
 
 pub returns-then-labels-ts : goal.returns-then-labels-ts
 returns-then-labels-ts c =
@@ -95,7 +97,8 @@ returns-then-labels-ts c =
     let e : roomy s ≡ false =
     room-more (asked s) (length s.args.codes.now) (last-two s) (omega (arith, k.0, d.if-codes-ts.false))
     ∙ room-less (asked s) (length s.args.labels.now) (last_one s) (omega (arith, k.1, c.if-labels-ts.true)) in
-    record { answer = ((to_z-of_z {w = w64} (sfits_of c.refusal_code-then-labels-ts.type_inv) ∙ c.refusal_code-then-labels-ts.ensures ∙ refusal s e, nothing p e)).0; codes = ((to_z-of_z {w = w64} (sfits_of c.refusal_code-then-labels-ts.type_inv) ∙ c.refusal_code-then-labels-ts.ensures ∙ refusal s e, nothing p e)).1; labels = ((to_z-of_z {w = w64} (sfits_of c.refusal_code-then-labels-ts.type_inv) ∙ c.refusal_code-then-labels-ts.ensures ∙ refusal s e, nothing p e)).2; places = ((to_z-of_z {w = w64} (sfits_of c.refusal_code-then-labels-ts.type_inv) ∙ c.refusal_code-then-labels-ts.ensures ∙ refusal s e, nothing p e)).3 }
+    let n = nothing p e in
+    record { answer = to_z-of_z {w = w64} (sfits_of c.refusal_code-then-labels-ts.type_inv) ∙ c.refusal_code-then-labels-ts.ensures ∙ refusal s e; codes = n.0; labels = n.1.0; places = n.1.1 }
 
 pub returns-then-places-ts : goal.returns-then-places-ts
 returns-then-places-ts c =
@@ -107,7 +110,8 @@ returns-then-places-ts c =
     room-more (asked s) (length s.args.codes.now) (last-two s) (omega (arith, k.0, d.if-codes-ts.false))
     ∙ room-more (asked s) (length s.args.labels.now) (last_one s) (omega (arith, k.1, d.if-labels-ts.false))
     ∙ room-less (asked s) (length s.args.places.now) [] (omega (arith, k.2, c.if-places-ts.true)) in
-    record { answer = ((to_z-of_z {w = w64} (sfits_of c.refusal_code-then-places-ts.type_inv) ∙ c.refusal_code-then-places-ts.ensures ∙ refusal s e, nothing p e)).0; codes = ((to_z-of_z {w = w64} (sfits_of c.refusal_code-then-places-ts.type_inv) ∙ c.refusal_code-then-places-ts.ensures ∙ refusal s e, nothing p e)).1; labels = ((to_z-of_z {w = w64} (sfits_of c.refusal_code-then-places-ts.type_inv) ∙ c.refusal_code-then-places-ts.ensures ∙ refusal s e, nothing p e)).2; places = ((to_z-of_z {w = w64} (sfits_of c.refusal_code-then-places-ts.type_inv) ∙ c.refusal_code-then-places-ts.ensures ∙ refusal s e, nothing p e)).3 }
+    let n = nothing p e in
+    record { answer = to_z-of_z {w = w64} (sfits_of c.refusal_code-then-places-ts.type_inv) ∙ c.refusal_code-then-places-ts.ensures ∙ refusal s e; codes = n.0; labels = n.1.0; places = n.1.1 }
 
 pub returns : goal.returns
 returns c =
@@ -126,40 +130,11 @@ returns c =
     let l = a.answer_all.ensures in
     let x = l.answers in
     let y = l.labels in
-    let z = l.places in record { answer = ((
-      count-back _ (omega (arith, s.good.0.1)) ∙ sym (ap (λ (b : Bool). batch_code b ts) e),
-      (
-        left-all (code s) ts _ e in-codes (codes p).clear.ensures (simp plain at x),
-        (
-          left-all (label s) ts _ e in-labels (labels p).clear2.ensures (simp plain at y),
-          left-all (place s) ts _ e in-places (places p).clear3.ensures (simp plain at z),
-        ),
-      ),
-    )).0; codes = ((
-      count-back _ (omega (arith, s.good.0.1)) ∙ sym (ap (λ (b : Bool). batch_code b ts) e),
-      (
-        left-all (code s) ts _ e in-codes (codes p).clear.ensures (simp plain at x),
-        (
-          left-all (label s) ts _ e in-labels (labels p).clear2.ensures (simp plain at y),
-          left-all (place s) ts _ e in-places (places p).clear3.ensures (simp plain at z),
-        ),
-      ),
-    )).1; labels = ((
-      count-back _ (omega (arith, s.good.0.1)) ∙ sym (ap (λ (b : Bool). batch_code b ts) e),
-      (
-        left-all (code s) ts _ e in-codes (codes p).clear.ensures (simp plain at x),
-        (
-          left-all (label s) ts _ e in-labels (labels p).clear2.ensures (simp plain at y),
-          left-all (place s) ts _ e in-places (places p).clear3.ensures (simp plain at z),
-        ),
-      ),
-    )).2; places = ((
-      count-back _ (omega (arith, s.good.0.1)) ∙ sym (ap (λ (b : Bool). batch_code b ts) e),
-      (
-        left-all (code s) ts _ e in-codes (codes p).clear.ensures (simp plain at x),
-        (
-          left-all (label s) ts _ e in-labels (labels p).clear2.ensures (simp plain at y),
-          left-all (place s) ts _ e in-places (places p).clear3.ensures (simp plain at z),
-        ),
-      ),
-    )).3 }
+    let z = l.places in
+    let few : asked s < 2 ^ 63 = search rules in
+    record {
+      answer = count-back _ few ∙ sym (ap (λ (b : Bool). batch_code b ts) e);
+      codes = left-all (code s) ts _ e in-codes (codes p).clear.ensures (simp plain at x);
+      labels = left-all (label s) ts _ e in-labels (labels p).clear-2.ensures (simp plain at y);
+      places = left-all (place s) ts _ e in-places (places p).clear-3.ensures (simp plain at z);
+    }

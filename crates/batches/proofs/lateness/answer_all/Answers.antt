@@ -1,21 +1,18 @@
 -- `batches::lateness::answer_all` meets its contract. The loop's invariant: the front of the list has the answers to the
 -- first i slots.
-use borrow.Author.Rules.{rules, sfits_of}
+use borrow.Author.Rules.{sfits_of}
 use mathlib.Core.Path.{◌≡◌, refl, ◌∙◌, ap}
-use Prim.Native.Nat.{◌≤◌, ◌-◌}
 use native.Mathlib.Omega.{arith}
 use lib.IntN.{ℤ, pos}
-use lib.ListN.{length, take, get_or}
+use lib.ListN.{length, get_or}
 use mir.Syntax.{w64}
 use mir.Val.{to_z, of_z}
 use mir.Facts.{to_z-of_z}
 use Rattle.integers.proofs.Machine.{plain}
 use Rattle.calendar.specs.Meaning.{Row}
 use Rattle.calendar.specs.Questions.{given}
-use Rattle.floats.specs.declared.Allowance.{Allowance}
 use Rattle.questions.specs.Answers.{late_reply, may_be_late}
 use Rattle.questions_api.specs.Codes.{late_code}
-use Rattle.batches.specs.Front.{front}
 use Rattle.batches.proofs.Fronts.{front-more, front-all, front-whole}
 use Rattle.batches.proofs.lateness.answer_all.Invariants.{code}
 use Rattle.batches.proofs.lateness.answer_all.Goals as goal
@@ -39,9 +36,6 @@ whole c =
 pub loop-i-init : goal.loop-i-init
 loop-i-init c = (omega arith, refl)
 
-pub offset_bounds-zs-i : goal.offset_bounds-zs-i
-offset_bounds-zs-i c = omega (arith, c.well-formed.0.1)
-
 pub asked-late-requires : goal.asked-late-requires
 asked-late-requires c = c.sound-sound.ensures
 
@@ -50,10 +44,7 @@ replied : (c : After-asked-late) → let a = (goal.at.After-asked-late c).At-loo
 replied c =
     let s = (goal.at.After-asked-late c).Start in
     c.asked-late.ensures
-    ∙ ap (λ (z : ℤ). may_be_late (row s) z (late s) s.args.allowance) (to_z-of_z (sfits_of c.asked-arg-1.given))
-
-pub offset_bounds-answers-i : goal.offset_bounds-answers-i
-offset_bounds-answers-i c = omega (arith, c.well-formed.0.1)
+    ∙ ap (λ (z : ℤ). may_be_late (row s) z (late s) s.args.allowance) (to_z-of_z {w = w64} (sfits_of c.asked-arg-1.given))
 
 pub bounds-answers-i : goal.bounds-answers-i
 bounds-answers-i c =

@@ -1,22 +1,15 @@
 -- `batches::lateness::answer_all` meets its contract. The loop's invariant: the front of the list has the answers to the
 -- first i slots.
-use borrow.Author.Rules.{rules, sfits_of}
-use mathlib.Core.Path.{◌≡◌, refl, ◌∙◌, ap}
+use mathlib.Core.Path.{◌≡◌}
 use Prim.Native.Nat.{◌≤◌, ◌-◌}
-use native.Mathlib.Omega.{arith}
-use lib.IntN.{ℤ, pos}
-use lib.ListN.{length, take, get_or}
-use mir.Syntax.{w64}
-use mir.Val.{to_z, of_z}
-use mir.Facts.{to_z-of_z}
-use Rattle.integers.proofs.Machine.{plain}
+use lib.IntN.{ℤ}
+use lib.ListN.{length, take}
 use Rattle.calendar.specs.Meaning.{Row}
 use Rattle.calendar.specs.Questions.{given}
 use Rattle.floats.specs.declared.Allowance.{Allowance}
-use Rattle.questions.specs.Answers.{late_reply, may_be_late}
+use Rattle.questions.specs.Answers.{may_be_late}
 use Rattle.questions_api.specs.Codes.{late_code}
 use Rattle.batches.specs.Front.{front}
-use Rattle.batches.proofs.Fronts.{front-more, front-all, front-whole}
 use Rattle.batches.proofs.lateness.answer_all.Given as goal
 
 abbrev pub code : Row → ℤ → Allowance → ℤ → ℤ
@@ -29,4 +22,3 @@ invariant-loop-i l =
 
 abbrev pub decreases-loop-i : goal.decreases-loop-i
 decreases-loop-i l = length l.zs - l.i
-

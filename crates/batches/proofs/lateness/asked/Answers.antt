@@ -1,5 +1,5 @@
 -- `batches::lateness::asked` meets its contract: 13, or what `checked::may_be_late` says.
-use mathlib.Core.Path.{◌≡◌, sym, ◌∙◌}
+use mathlib.Core.Path.{sym, ◌∙◌}
 use borrow.Author.Tests.{not-false}
 use Rattle.integers.proofs.Machine.{plain}
 use Rattle.questions.specs.Answers.{may_be_late}

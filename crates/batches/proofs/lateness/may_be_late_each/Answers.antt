@@ -4,11 +4,12 @@ use borrow.Author.Rules.{rules, sfits_of}
 use mathlib.Core.Path.{◌≡◌, sym, ◌∙◌, ap}
 use mathlib.Core.Bool.{Bool, true, false}
 use mathlib.Core.List.{[], ◌∷◌}
-use Prim.Native.Nat.{ℕ, ◌≤◌}
+use Prim.Native.Nat.{ℕ, ◌≤◌, ◌<◌, ◌^◌}
 use native.Mathlib.Omega.{arith}
 use lib.IntN.{ℤ}
 use lib.ListN.{length}
 use mir.Facts.{to_z-of_z}
+use mir.Syntax.{w64}
 use Rattle.integers.proofs.Machine.{plain}
 use Rattle.calendar.specs.Questions.{given}
 use Rattle.codes.proofs.Counts.{count-back}
@@ -41,13 +42,11 @@ returns-then-codes-zs c =
     let s = start p in
     let zs = s.args.zs.now in
     let e : roomy s ≡ false =
-    room-less (asked s) (length s.args.codes.now) [] (omega (arith, same-length-cleared p, c.if-codes-zs.true)) in record { answer = ((
-      to_z-of_z {w = w64} (sfits_of c.refusal_code.type_inv) ∙ c.refusal_code.ensures ∙ sym (ap (λ (b : Bool). batch_code b zs) e),
-      left-none (code s) zs _ e p.clear.ensures,
-    )).0; codes = ((
-      to_z-of_z {w = w64} (sfits_of c.refusal_code.type_inv) ∙ c.refusal_code.ensures ∙ sym (ap (λ (b : Bool). batch_code b zs) e),
-      left-none (code s) zs _ e p.clear.ensures,
-    )).1 }
+    room-less (asked s) (length s.args.codes.now) [] (omega (arith, same-length-cleared p, c.if-codes-zs.true)) in
+    record {
+      answer = to_z-of_z {w = w64} (sfits_of c.refusal_code.type_inv) ∙ c.refusal_code.ensures ∙ sym (ap (λ (b : Bool). batch_code b zs) e);
+      codes = left-none (code s) zs _ e p.clear.ensures;
+    }
 
 pub returns : goal.returns
 returns c =
@@ -61,10 +60,9 @@ returns c =
     let zs = s.args.zs.now in
     let in-codes : asked s ≤ length s.args.codes.now = omega (arith, same-length-cleared p, k.if-codes-zs.false) in
     let e : roomy s ≡ true = room-more _ _ [] in-codes in
-    let x = a.answer_all.ensures in record { answer = ((
-      count-back _ (omega (arith, s.good.0.1)) ∙ sym (ap (λ (b : Bool). batch_code b zs) e),
-      left-all (code s) zs _ e in-codes p.clear.ensures (simp plain at x),
-    )).0; codes = ((
-      count-back _ (omega (arith, s.good.0.1)) ∙ sym (ap (λ (b : Bool). batch_code b zs) e),
-      left-all (code s) zs _ e in-codes p.clear.ensures (simp plain at x),
-    )).1 }
+    let x = a.answer_all.ensures in
+    let few : asked s < 2 ^ 63 = search rules in
+    record {
+      answer = count-back _ few ∙ sym (ap (λ (b : Bool). batch_code b zs) e);
+      codes = left-all (code s) zs _ e in-codes p.clear.ensures (simp plain at x);
+    }

@@ -1,11 +1,10 @@
 -- `batches::slots::answer_all` meets its contract. The loop's invariant: the front of each list has the answers to the
 -- first i slots.
-use borrow.Author.Rules.{rules, sfits_of}
+use borrow.Author.Rules.{sfits_of}
 use mathlib.Core.Path.{◌≡◌, refl, ◌∙◌, ap}
-use Prim.Native.Nat.{◌≤◌, ◌-◌}
 use native.Mathlib.Omega.{arith}
-use lib.IntN.{ℤ, pos}
-use lib.ListN.{length, take, get_or}
+use lib.IntN.{pos}
+use lib.ListN.{length, get_or}
 use mir.Syntax.{w64}
 use mir.Val.{to_z, of_z}
 use mir.Facts.{to_z-of_z}
@@ -14,7 +13,6 @@ use Rattle.calendar.specs.Meaning.{Row}
 use Rattle.calendar.specs.Questions.{given, up_from_granule}
 use Rattle.questions.specs.Answers.{up_reply}
 use Rattle.questions_api.specs.Codes.{up_code, up_label}
-use Rattle.batches.specs.Front.{front}
 use Rattle.batches.proofs.Fronts.{front-more, front-all, front-whole}
 use Rattle.batches.proofs.slots.answer_all.Invariants.{code, label}
 use Rattle.batches.proofs.slots.answer_all.Goals as goal
@@ -41,9 +39,6 @@ whole c =
 pub loop-i-init : goal.loop-i-init
 loop-i-init c = (omega arith, refl, refl)
 
-pub offset_bounds-zs-i : goal.offset_bounds-zs-i
-offset_bounds-zs-i c = omega (arith, c.well-formed.0.1)
-
 pub asked-up-requires : goal.asked-up-requires
 asked-up-requires c = c.both_sound-sound.ensures
 
@@ -51,18 +46,12 @@ replied : (c : After-asked-up) → let a = (goal.at.After-asked-up c).At-loop-i 
     up_reply c.asked-up.result ≡ up_from_granule (g-row s) (h-row s) (get_or s.args.zs.now a.loop-i.i (pos 0))
 replied c =
     let s = (goal.at.After-asked-up c).Start in
-    c.asked-up.ensures ∙ ap (up_from_granule (g-row s) (h-row s)) (to_z-of_z (sfits_of c.asked-arg-1.given))
-
-pub offset_bounds-labels-i : goal.offset_bounds-labels-i
-offset_bounds-labels-i c = omega (arith, c.well-formed.0.1)
+    c.asked-up.ensures ∙ ap (up_from_granule (g-row s) (h-row s)) (to_z-of_z {w = w64} (sfits_of c.asked-arg-1.given))
 
 pub bounds-labels-i : goal.bounds-labels-i
 bounds-labels-i c =
     let a = (goal.at.bounds-labels-i c).At-loop-i in
     omega (arith, (whole a).1, a.requires.zs_in_bounds_2, c.loop-i-test.true)
-
-pub offset_bounds-answers-i : goal.offset_bounds-answers-i
-offset_bounds-answers-i c = offset_bounds-labels-i (goal.at.offset_bounds-answers-i c).After-asked-up
 
 pub bounds-answers-i : goal.bounds-answers-i
 bounds-answers-i c =

@@ -32,7 +32,8 @@ up_granule-requires c =
     let n = c.ranges.g_distance in
     let q = c.ranges.h_period in
     let m = c.ranges.h_distance in
-    record { sound = (simp plain ((and-iff _ _).0 (sym c.requires ∙ not-false _ c.if-not-sound.false-raw))).0; sound_2 = (simp plain ((and-iff _ _).0 (sym c.requires ∙ not-false _ c.if-not-sound.false-raw))).1 }
+    let e = (and-iff _ _).0 (sym c.requires ∙ not-false _ c.if-not-sound.false-raw) in
+    record { sound = simp plain e.0; sound_2 = simp plain e.1 }
 
 pub returns : goal.returns
 returns c =

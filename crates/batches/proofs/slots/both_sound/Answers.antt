@@ -1,6 +1,5 @@
 -- `batches::slots::both_sound` meets its contract.
 use borrow.Author.Tests.{not-false}
-use borrow.Author.Rules.{rules}
 use mathlib.Core.Path.{◌≡◌, sym, ◌∙◌, ap}
 use mathlib.Core.Bool.{Bool, ◌&&◌}
 use Rattle.integers.proofs.Machine.{plain}

@@ -4,11 +4,12 @@ use borrow.Author.Rules.{rules, sfits_of}
 use mathlib.Core.Path.{◌≡◌, sym, ◌∙◌, ap}
 use mathlib.Core.Bool.{Bool, true, false}
 use mathlib.Core.List.{List, [], ◌∷◌}
-use Prim.Native.Nat.{ℕ, ◌≤◌}
+use Prim.Native.Nat.{ℕ, ◌≤◌, ◌<◌, ◌^◌}
 use native.Mathlib.Omega.{arith}
 use lib.IntN.{ℤ}
 use lib.ListN.{length}
 use mir.Facts.{to_z-of_z}
+use mir.Syntax.{w64}
 use Rattle.integers.proofs.Machine.{plain}
 use Rattle.calendar.specs.Meaning.{Row}
 use Rattle.calendar.specs.Questions.{given, up_from_granule}
@@ -52,21 +53,21 @@ abbrev labels : After-labels-1 → After-clear-2
 labels p = (goal.at.After-labels-1 p).After-clear-2
 
 same-lengths : (p : After-labels-1) → let s = start p in
-    (length (codes p).clear.new.0 ≡ length s.args.codes.now) ×
-    (length (labels p).clear2.new.0 ≡ length s.args.labels.now)
-same-lengths p = (cleared-length _ (codes p).clear.ensures, cleared-length _ (labels p).clear2.ensures)
+    (length (codes p).clear.new.parts ≡ length s.args.codes.now) ×
+    (length (labels p).clear-2.new.parts ≡ length s.args.labels.now)
+same-lengths p = (cleared-length _ (codes p).clear.ensures, cleared-length _ (labels p).clear-2.ensures)
 
 refusal : (s : Start) → roomy s ≡ false → refusal_code 17 ≡ batch_code (roomy s) s.args.zs.now
 refusal s e = sym (ap (λ (b : Bool). batch_code b s.args.zs.now) e)
 
 nothing : (p : After-labels-1) → let s = start p in
     roomy s ≡ false
-    → ((codes p).clear.new.0 ≡ answers_left (roomy s) (length s.args.codes.now) (code s) s.args.zs.now) ×
-    ((labels p).clear2.new.0 ≡ answers_left (roomy s) (length s.args.labels.now) (label s) s.args.zs.now)
+    → ((codes p).clear.new.parts ≡ answers_left (roomy s) (length s.args.codes.now) (code s) s.args.zs.now) ×
+    ((labels p).clear-2.new.parts ≡ answers_left (roomy s) (length s.args.labels.now) (label s) s.args.zs.now)
 nothing p e =
     let s = start p in
     let zs = s.args.zs.now in
-    (left-none (code s) zs _ e (codes p).clear.ensures, left-none (label s) zs _ e (labels p).clear2.ensures)
+    (left-none (code s) zs _ e (codes p).clear.ensures, left-none (label s) zs _ e (labels p).clear-2.ensures)
 
 pub returns-then-codes-zs : goal.returns-then-codes-zs
 returns-then-codes-zs c =
@@ -74,7 +75,8 @@ returns-then-codes-zs c =
     let s = start p in
     let e : roomy s ≡ false =
     room-less (asked s) (length s.args.codes.now) (last_one s) (omega (arith, (same-lengths p).0, c.if-codes-zs.true)) in
-    record { answer = ((to_z-of_z {w = w64} (sfits_of c.refusal_code.type_inv) ∙ c.refusal_code.ensures ∙ refusal s e, nothing p e)).0; codes = ((to_z-of_z {w = w64} (sfits_of c.refusal_code.type_inv) ∙ c.refusal_code.ensures ∙ refusal s e, nothing p e)).1; labels = ((to_z-of_z {w = w64} (sfits_of c.refusal_code.type_inv) ∙ c.refusal_code.ensures ∙ refusal s e, nothing p e)).2 }
+    let n = nothing p e in
+    record { answer = to_z-of_z {w = w64} (sfits_of c.refusal_code.type_inv) ∙ c.refusal_code.ensures ∙ refusal s e; codes = n.0; labels = n.1 }
 
 pub returns-then-labels-zs : goal.returns-then-labels-zs
 returns-then-labels-zs c =
@@ -85,7 +87,8 @@ returns-then-labels-zs c =
     let e : roomy s ≡ false =
     room-more (asked s) (length s.args.codes.now) (last_one s) (omega (arith, k.0, d.if-codes-zs.false))
     ∙ room-less (asked s) (length s.args.labels.now) [] (omega (arith, k.1, c.if-labels-zs.true)) in
-    record { answer = ((to_z-of_z {w = w64} (sfits_of c.refusal_code-then-labels-zs.type_inv) ∙ c.refusal_code-then-labels-zs.ensures ∙ refusal s e, nothing p e)).0; codes = ((to_z-of_z {w = w64} (sfits_of c.refusal_code-then-labels-zs.type_inv) ∙ c.refusal_code-then-labels-zs.ensures ∙ refusal s e, nothing p e)).1; labels = ((to_z-of_z {w = w64} (sfits_of c.refusal_code-then-labels-zs.type_inv) ∙ c.refusal_code-then-labels-zs.ensures ∙ refusal s e, nothing p e)).2 }
+    let n = nothing p e in
+    record { answer = to_z-of_z {w = w64} (sfits_of c.refusal_code-then-labels-zs.type_inv) ∙ c.refusal_code-then-labels-zs.ensures ∙ refusal s e; codes = n.0; labels = n.1 }
 
 pub returns : goal.returns
 returns c =
@@ -103,7 +106,10 @@ returns c =
     let in-labels : asked s ≤ length s.args.labels.now = omega (arith, k.1, d.if-labels-zs.false) in
     let e : roomy s ≡ true = room-more _ _ (last_one s) in-codes ∙ room-more _ _ [] in-labels in
     let x = a.answer_all.ensures.answers in
-    let y = a.answer_all.ensures.labels in record { answer = count-back _ (omega (arith, s.good.0.1)) ∙ sym (ap (λ (b : Bool). batch_code b zs) e); codes = (
-        left-all (code s) zs _ e in-codes (codes p).clear.ensures (simp plain at x),
-        left-all (label s) zs _ e in-labels (labels p).clear2.ensures (simp plain at y),
-      ); labels =  }
+    let y = a.answer_all.ensures.labels in
+    let few : asked s < 2 ^ 63 = search rules in
+    record {
+      answer = count-back _ few ∙ sym (ap (λ (b : Bool). batch_code b zs) e);
+      codes = left-all (code s) zs _ e in-codes (codes p).clear.ensures (simp plain at x);
+      labels = left-all (label s) zs _ e in-labels (labels p).clear-2.ensures (simp plain at y);
+    }
