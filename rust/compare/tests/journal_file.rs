@@ -1,7 +1,9 @@
-//! The program `slots`, which keeps a journal in a file, over real files: files that are cut after every
-//! byte of an append, a writer that is killed at any moment, and writes that
-//! the system cuts short.
+//! The program `slots`, which keeps a journal in a file, or the one that
+//! `JOURNAL_PROGRAM` names, as `journal_file`, over real files: files that are
+//! cut after every byte of an append, a writer that is killed at any moment,
+//! and writes that the system cuts short.
 
+use std::env;
 use std::fs::{self, File, OpenOptions};
 use std::io::Write;
 use std::path::{Path, PathBuf};
@@ -15,8 +17,8 @@ use jogipahn_compare::second::journal::{self, TRAILER};
 use jogipahn_compare::second::sheet::sheet;
 use jogipahn_compare::texts;
 
-/// The program that keeps the journal.
-const PROGRAM: &str = concat!(env!("CARGO_MANIFEST_DIR"), "/../../target/bin/slots");
+/// The program that keeps the journal, where no other is named.
+const SLOTS: &str = concat!(env!("CARGO_MANIFEST_DIR"), "/../../target/bin/slots");
 
 /// So many appends are cut after each of their bytes.
 const APPENDS: usize = 100;
@@ -27,7 +29,12 @@ const KILLS: usize = 1_000;
 const EMPTY: &[u8] = b"empty book\n";
 
 fn program() -> Command {
-    Command::new(PROGRAM)
+    Command::new(env::var_os("JOURNAL_PROGRAM").unwrap_or(SLOTS.into()))
+}
+
+/// Whether the program says what to do beside a refusal.
+fn advises() -> bool {
+    env::var_os("JOURNAL_PROGRAM").is_none()
 }
 
 /// A file that does not exist yet.
@@ -65,12 +72,13 @@ fn append_whole(path: &Path, text: &[u8]) {
     assert!(output.stderr.is_empty(), "{output:?}");
 }
 
-/// What the program prints for the last table. Beside a refusal it says what
-/// to do, and else nothing.
+/// What the program prints for the last table. Beside a refusal `slots` says
+/// what to do, and else nothing is said.
 fn last(path: &Path) -> Vec<u8> {
     let output = program().arg("last").arg(path).output().expect("it runs");
     let refused = output.stdout.starts_with(b"refused ");
-    assert_eq!(output.stderr.is_empty(), !refused, "{output:?}");
+    let told = refused && advises();
+    assert_eq!(output.stderr.is_empty(), !told, "{output:?}");
     output.stdout
 }
 
@@ -282,7 +290,8 @@ fn refusals_and_failures() {
         let output = append(&path, text);
         let told = format!("refused 19 at {line}\n");
         assert_eq!(String::from_utf8_lossy(&output.stdout), told);
-        assert!(output.stderr.starts_with(b"give lines"), "{output:?}");
+        let told = output.stderr.starts_with(b"give lines");
+        assert_eq!(told, advises(), "{output:?}");
         assert!(!path.exists());
         assert_eq!(last(&path), EMPTY);
     }
