@@ -56,6 +56,15 @@ a-row s = given (to_z w64 (of_z w64 s.args.a_period)) (to_z w64 (of_z w64 s.args
 abbrev b-row : Start → Row
 b-row s = given (to_z w64 (of_z w64 s.args.b_period)) (to_z w64 (of_z w64 s.args.b_distance)) s.args.b_cells.now
 
+pub start_of-start-requires-clause-t_value_2 : goal.start_of-start-requires-clause-t_value_2
+start_of-start-requires-clause-t_value_2 c =
+    let s = (goal.at.start_of-start-requires-clause-t_value_2 c).Start in
+    let p = s.ranges.a_period in
+    let n = s.ranges.a_distance in
+    let t = s.ranges.t in
+    let j = s.ranges.j in
+    simp plain s.requires.t_value_2
+
 recalled : (s : Start) → Recalls s.args.pick s.args.whole (a-row s) (b-row s) s.args.m
 recalled s =
     let p = s.ranges.a_period in
