@@ -21,7 +21,7 @@ use Rattle.kinds.specs.declared.Alteration.{Alteration}
 use Rattle.alter_granules.specs.declared.Repeat.{Repeat}
 use Rattle.alter_granules.specs.Given.{altering, Alterable}
 use Rattle.alter_granules.specs.Follows.{Follows, Starts}
-use Rattle.alter_granules.proofs.Followed.{follows-start, follows-later, reaches, seeks, place-behind}
+use Rattle.alter_granules.proofs.Followed.{follows-start, follows-later, seeks, place-behind}
 use Rattle.fill_alter.proofs.Scans.{Found, both, label_of, found-walk, found-label, found_as}
 use Rattle.match_shared.specs.declared.Matched.TheVariants.{Same, Different, OutOfRange}
 use Rattle.match_shared.specs.Matching.{agree, matched_as}

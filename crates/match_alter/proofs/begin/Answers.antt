@@ -25,16 +25,17 @@ abbrev entry : Lent → Start
 entry l = (goal.at.After-cells_of-b_cells l).Start
 
 a-is : (l : Lent) → lent_row (entry l).args.a l.cells_of-a_cells.result.now ≡ row_in (entry l).args.pool.now (entry l).args.a
-a-is l = lent_is _ _ (entry l).requires.0.0 _ l.cells_of-a_cells.ensures
+a-is l = lent_is _ _ (entry l).requires.stands.0 _ l.cells_of-a_cells.ensures
 
 b-is : (l : Lent) → lent_row (entry l).args.b l.cells_of-b_cells.result.now ≡ row_in (entry l).args.pool.now (entry l).args.b
-b-is l = lent_is _ _ (entry l).requires.0.1 _ l.cells_of-b_cells.ensures
+b-is l = lent_is _ _ (entry l).requires.stands.1 _ l.cells_of-b_cells.ensures
 
 pub start_walk-walk-requires : goal.start_walk-walk-requires
 start_walk-walk-requires c =
     let l = (goal.at.start_walk-walk-requires c).After-cells_of-b_cells in
     let s = entry l in
-    record { sound = (same_rows (λ x y. (sound x ≡ true) × ((sound y ≡ true) × Alterable s.args.by s.args.repeat x y)) (sym (a-is l)) (sym (b-is l)) (s.requires.stands.0.is-sound, (s.requires.stands.1.is-sound, s.requires.alterable))).0; sound_2 = (same_rows (λ x y. (sound x ≡ true) × ((sound y ≡ true) × Alterable s.args.by s.args.repeat x y)) (sym (a-is l)) (sym (b-is l)) (s.requires.stands.0.is-sound, (s.requires.stands.1.is-sound, s.requires.alterable))).1; alterable = (same_rows (λ x y. (sound x ≡ true) × ((sound y ≡ true) × Alterable s.args.by s.args.repeat x y)) (sym (a-is l)) (sym (b-is l)) (s.requires.stands.0.is-sound, (s.requires.stands.1.is-sound, s.requires.alterable))).2 }
+    let k = same_rows (λ x y. (sound x ≡ true) × (sound y ≡ true) × Alterable s.args.by s.args.repeat x y) (sym (a-is l)) (sym (b-is l)) (s.requires.stands.0.is-sound, s.requires.stands.1.is-sound, s.requires.alterable) in
+    record { sound = k.0; sound_2 = k.1; alterable = k.2 }
 
 pub returns : goal.returns
 returns c =

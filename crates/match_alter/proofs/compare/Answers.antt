@@ -3,10 +3,9 @@
 use borrow.Author.Rules.{sfits_of}
 use borrow.Author.Tests.{not-true, not-false}
 use mathlib.Core.Path.{◌≡◌, sym, subst, subst₂}
-use mathlib.Core.Logic.{⊎_elim}
 use mathlib.Core.Option.{some}
 use mathlib.Core.Bool.{true}
-use Prim.Native.Nat.{◌^◌, ◌-◌, ◌≤◌, ◌<◌}
+use Prim.Native.Nat.{◌^◌, ◌≤◌, ◌<◌}
 use native.Mathlib.Omega.{arith}
 use lib.IntN.{ℤ, pos}
 use lib.Signed.{◌≤ℤ◌, ◌<ℤ◌}
@@ -30,10 +29,10 @@ use Rattle.match_shared.proofs.Lent.{lent_row}
 use Rattle.match_stretches.specs.Stretch.{Room, Stretched}
 use Rattle.match_stretches.proofs.Rows.{period-positive, lent_is, cursor-start}
 use Rattle.match_alter.specs.declared.Scan.{Scan}
-use Rattle.match_alter.specs.Scanning.{instant_of, Walking, Reading}
-use Rattle.match_alter.proofs.Scanned.{Scanned, scanned-led, scanned-done, scanned-other, found-on, scanned-next, scanned-ahead, scanned-seeks, scanned-reads, scanned-behind}
+use Rattle.match_alter.specs.Scanning.{instant_of, Walking, Reading, FoundAhead, FoundBehind}
+use Rattle.match_alter.proofs.Scanned.{scanned-led, scanned-done, scanned-other, found-on, scanned-next, scanned-ahead, scanned-seeks, scanned-reads, scanned-behind}
 use Rattle.match_alter.proofs.compare.Goals as goal
-use Rattle.match_alter.proofs.compare.Goals.{After-begin-scan, After-cells_of-a_cells, After-compare_stretch-seen, After-find_ahead-scan, After-find_behind-scan, After-label_of-arg-1, After-label_of-j, After-struct_told-in-loop-seen-2-1, At-loop-seen, Else-j-walk, Else-not-seen, In-loop-seen, Joined-j-walk, Start as Start-place}
+use Rattle.match_alter.proofs.compare.Goals.{After-begin-scan, After-cells_of-a_cells, After-compare_stretch-seen, After-find_ahead-scan, After-find_behind-scan, After-label_of-j, At-loop-seen, Else-j-walk, Else-not-seen, In-loop-seen, Joined-j-walk, then-j-walk, else-j-walk, Start as Start-place}
 
 -- ---- before the loop
 abbrev Start : Type 0
@@ -76,7 +75,7 @@ abbrev lent : At → After-cells_of-a_cells
 lent l = (goal.at.At-loop-seen l).After-cells_of-a_cells
 
 abbrev entry : At → Start
-entry l = (lent l).before
+entry l = (goal.at.At-loop-seen l).Start
 
 -- the loop goes on
 abbrev In : Type 0
@@ -85,10 +84,10 @@ In = In-loop-seen
 abbrev at_of : In → At
 at_of c = (goal.at.In-loop-seen c).At-loop-seen
 
-inside : (c : In) → (at_of c).loop.seen.t < (entry (at_of c)).args.period
+inside : (c : In) → (at_of c).loop-seen.seen.t < (entry (at_of c)).args.period
 inside c = c.loop-seen-test.true
 
-early : (c : In) → (at_of c).loop.seen.t ≤ pool_limit
+early : (c : In) → (at_of c).loop-seen.seen.t ≤ pool_limit
 early c = omega (arith, inside c, (entry (at_of c)).requires.comparable.room)
 
 pub returns-then-not-seen : goal.returns-then-not-seen
@@ -96,7 +95,7 @@ returns-then-not-seen c =
     let l = at_of (goal.at.returns-then-not-seen c).In-loop-seen in
     let s = entry l in
     let p = s.requires.comparable in
-    scanned-other s.args.by s.args.repeat (A s) (B s) (R s) s.args.period s.requires.alterable p.is-period p.in-range l.loop-seen.scan l.loop-seen.seen l.loop-seen.inv (not-true _ c.if-not-seen.true)
+    scanned-other s.args.by s.args.repeat (A s) (B s) (R s) s.args.period s.requires.alterable p.is-period p.in-range l.loop-seen.scan l.loop-seen.seen l.loop-seen.invariant (not-true _ c.if-not-seen.true)
 
 -- all labels so far are the same
 abbrev Agreed : Type 0
@@ -108,25 +107,25 @@ in-of c = (goal.at.Else-not-seen c).In-loop-seen
 same : (c : Agreed) → (at_of (in-of c)).loop-seen.seen.same ≡ true
 same c = not-false _ c.if-not-seen.false
 
-a-is : (l : At) → lent_row (entry l).args.a (lent l).cells_of.result.now ≡ A (entry l)
-a-is l = lent_is _ _ (entry l).requires.1.a-stands _ (lent l).cells_of.ensures
+a-is : (l : At) → lent_row (entry l).args.a (lent l).cells_of-a_cells.result.now ≡ A (entry l)
+a-is l = lent_is _ _ (entry l).requires.comparable.a-stands _ (lent l).cells_of-a_cells.ensures
 
 pub label_of-j-requires : goal.label_of-j-requires
 label_of-j-requires c =
-    let i = in-of (goal.at.label_of-j-requires c).After-label_of-arg-1 in
+    let i = in-of (goal.at.label_of-j-requires c).Else-not-seen in
     let l = at_of i in
     let n = early i in
-    let h = l.loop-seen.inv.stage in
-    record { sound = (subst (λ (r : Row). (sound r ≡ true) × Shown r l.loop-seen.seen.cursor) (sym (a-is l))
-    ((entry l).pre.1.a-stands.is-sound, (pos l.loop-seen.seen.t, simp ints (omega arith), h.follows.cursor, h.stops (inside i)))).0; shown = (subst (λ (r : Row). (sound r ≡ true) × Shown r l.loop-seen.seen.cursor) (sym (a-is l))
-    ((entry l).pre.1.a-stands.is-sound, (pos l.loop-seen.seen.t, simp ints (omega arith), h.follows.cursor, h.stops (inside i)))).1 }
+    let h = l.loop-seen.invariant.stage in
+    let x = subst (λ (r : Row). (sound r ≡ true) × Shown r l.loop-seen.seen.cursor) (sym (a-is l))
+    ((entry l).requires.comparable.a-stands.is-sound, (pos l.loop-seen.seen.t, simp ints (omega arith), h.follows.cursor, h.stops (inside i))) in
+    record { sound = x.0; shown = x.1 }
 
 -- ---- the label
 abbrev Read : Type 0
 Read = After-label_of-j
 
 abbrev agreed-of : Read → Agreed
-agreed-of c = (goal.at.After-label_of-j c).After-label_of-arg-1
+agreed-of c = (goal.at.After-label_of-j c).Else-not-seen
 
 abbrev here : Read → At
 here c = at_of (in-of (agreed-of c))
@@ -137,7 +136,7 @@ label c = c.label_of-j.result
 label_is : (c : Read) → let l = here c in meant (A (entry l)) (pos l.loop-seen.seen.t) ≡ some (label c)
 label_is c =
     let l = here c in
-    (rw (a-is l) at c.label_of-j.ensures) (pos l.loop-seen.seen.t) l.loop-seen.inv.stage.follows.cursor
+    (rw (a-is l) at c.label_of-j.ensures) (pos l.loop-seen.seen.t) l.loop-seen.invariant.stage.follows.cursor
 
 label-near : (c : Read) → Within (2 ^ 40) (label c)
 label-near c =
@@ -154,48 +153,46 @@ abbrev j-of : Read → ℤ
 j-of c = to_z w64 (of_z w64 (label c))
 
 j-read : (c : Read) → j-of c ≡ label c
-j-read c = to_z-of_z (label-fits c)
+j-read c = to_z-of_z {w = w64} (label-fits c)
 
 -- where it is decided how the granule is found
-abbrev Asked : Type 0
-Asked = After-struct_told-in-loop-seen-2-1
-
-abbrev read_of : Asked → Read
-read_of c = (goal.at.After-struct_told-in-loop-seen-2-1 c).After-label_of-j
-
-end_fits : (c : Asked) → SFits w64 (here (read_of c)).loop-seen.scan.walk-1.end
-end_fits c = sfits_of c.struct_told-in-loop-seen-2-1.given.1.1.1.1.0.1
+end_fits : (c : Read) → SFits w64 (here c).loop-seen.scan.walk.end
+end_fits c = let n = (here c).loop-seen.invariant.follows.walk.origin.end-near in n.0 ∴ n.1 ∴ simp ints (omega arith)
 
 -- what is found
 abbrev Finds : Read → Scan → Type 0
 Finds c t =
     let l = here c in
     let s = entry l in
-    Found s.args.by s.args.repeat (A s) (B s) l.loop-seen.seen.t (label c) t.walk-1 (instant_of t.place) t.number t.high × (t.place.claim ≡ cursor_at (R s) (pos t.place.index))
+    Found s.args.by s.args.repeat (A s) (B s) l.loop-seen.seen.t (label c) t.walk (instant_of t.place) t.number t.high × (t.place.claim ≡ cursor_at (R s) (pos t.place.index))
 
 -- ---- by the walk over b
 pub find_ahead-scan-requires : goal.find_ahead-scan-requires
 find_ahead-scan-requires c =
-    let d = read_of (goal.at.find_ahead-scan-requires c).After-struct_told-in-loop-seen-2-1 in
+    let d = (goal.at.find_ahead-scan-requires c).After-label_of-j in
     let l = here d in
     let s = entry l in
     let n = l.loop-seen.scan in
-    let f = l.loop-seen.inv.follows in
-    let r = reaches s.args.by s.args.repeat (A s) (B s) s.requires.alterable l.loop-seen.seen.t (both n.walk-1 (instant_of n.place)) f (label d) (label_is d) in
-    let b = subst₂ ◌<ℤ◌ (j-read d) (to_z-of_z (end_fits (goal.at.find_ahead-scan-requires c).After-struct_told-in-loop-seen-2-1)) ((test-lt _ _).0 c.if-j-walk.true) in record { stands = (s.requires.comparable.a-stands, s.requires.comparable.b-stands); altering = ((s.args.repeat, s.requires.alterable), subst (λ (z : ℤ). Walking s.args.by (A s) (B s) z n) (sym (j-read d)) record { walk = f.walk-1; reached = r; before = b; near = label-near d }); walking =  }
+    let f = l.loop-seen.invariant.follows in
+    let r = reaches s.args.by s.args.repeat (A s) (B s) s.requires.alterable l.loop-seen.seen.t (both n.walk (instant_of n.place)) f (label d) (label_is d) in
+    let b = subst₂ ◌<ℤ◌ (j-read d) (to_z-of_z {w = w64} (end_fits d)) ((test-lt _ _).0 c.if-j-walk.true) in
+    record {
+      stands = (s.requires.comparable.a-stands, s.requires.comparable.b-stands);
+      altering = (s.args.repeat, s.requires.alterable);
+      walking = subst (λ (z : ℤ). Walking s.args.by (A s) (B s) z n) (sym (j-read d)) record { walk = f.walk; reached = r; before = b; near = label-near d };
+    }
 
-ahead : (c : After-find_ahead-scan) → Finds (read_of (goal.at.After-find_ahead-scan c).After-struct_told-in-loop-seen-2-1) c.find_ahead-scan.result
-ahead c =
-    let d = read_of (goal.at.After-find_ahead-scan c).After-struct_told-in-loop-seen-2-1 in
+ahead : (d : Read) (t : Scan) → let l = here d in let s = entry l in FoundAhead s.args.by (A s) (B s) (j-of d) l.loop-seen.scan t → Finds d t
+ahead d t e =
     let l = here d in
     let s = entry l in
     let p = s.requires.comparable in
-    scanned-ahead s.args.by s.args.repeat (A s) (B s) (R s) s.args.period s.requires.alterable p.is-period p.in-range l.loop-seen.scan l.loop-seen.seen l.loop-seen.inv
-    (inside (in-of (agreed-of d))) (label d) (label_is d) c.find_ahead-scan.result (rw (j-read d) at c.find_ahead-scan.ensures)
+    scanned-ahead s.args.by s.args.repeat (A s) (B s) (R s) s.args.period s.requires.alterable p.is-period p.in-range l.loop-seen.scan l.loop-seen.seen l.loop-seen.invariant
+    (inside (in-of (agreed-of d))) (label d) (label_is d) t (rw (j-read d) at e)
 
 -- ---- by the claimed row
-past : (c : Else-j-walk) → let d = read_of (goal.at.Else-j-walk c).After-struct_told-in-loop-seen-2-1 in (here d).loop.scan.walk.end ≤ℤ label d
-past c = let d = read_of (goal.at.Else-j-walk c).After-struct_told-in-loop-seen-2-1 in subst₂ ◌≤ℤ◌ (to_z-of_z (end_fits (goal.at.Else-j-walk c).After-struct_told-in-loop-seen-2-1)) (j-read d) ((test-not-lt _ _).0 c.if-j-walk.false)
+past : (d : Read) → to_z w64 (of_z w64 (here d).loop-seen.scan.walk.end) ≤ℤ j-of d → (here d).loop-seen.scan.walk.end ≤ℤ label d
+past d h = subst₂ ◌≤ℤ◌ (to_z-of_z {w = w64} (end_fits d)) (j-read d) h
 
 turns : (s : Start) → Turns s.args.repeat
 turns s =
@@ -206,48 +203,49 @@ turns s =
 
 pub find_behind-scan-requires : goal.find_behind-scan-requires
 find_behind-scan-requires c =
-    let d = read_of (goal.at.find_behind-scan-requires c).After-struct_told-in-loop-seen-2-1 in
+    let d = (goal.at.find_behind-scan-requires c).After-label_of-j in
     let l = here d in
     let s = entry l in
     let p = s.requires.comparable in
     let n = turns s in
-    let i = in-of (agreed-of d) in record {
+    let x = past d ((test-not-lt _ _).0 c.if-j-walk.false) in
+    let i = in-of (agreed-of d) in
+    record {
       stands = (p.a-stands, p.r-stands);
       reading = subst (λ (z : ℤ). Reading s.args.repeat (A s) (R s) z l.loop-seen.scan) (sym (j-read d)) record {
-        seeking = scanned-seeks s.args.by s.args.repeat (A s) (B s) (R s) s.args.period s.requires.alterable p.is-period p.in-range l.loop-seen.scan l.loop-seen.seen l.loop-seen.inv
-            (inside i) (label d) (label_is d) (past c) (same (agreed-of d)) p.room;
-        labelled = scanned-reads s.args.by s.args.repeat (A s) (B s) (R s) s.args.period s.requires.alterable p.is-period p.in-range l.loop-seen.scan l.loop-seen.seen l.loop-seen.inv
-            (inside i) (label d) (label_is d) (past c) (same (agreed-of d)) p.room;
+        seeking = scanned-seeks s.args.by s.args.repeat (A s) (B s) (R s) s.args.period s.requires.alterable p.is-period p.in-range l.loop-seen.scan l.loop-seen.seen l.loop-seen.invariant
+            (inside i) (label d) (label_is d) x (same (agreed-of d)) p.room;
+        labelled = scanned-reads s.args.by s.args.repeat (A s) (B s) (R s) s.args.period s.requires.alterable p.is-period p.in-range l.loop-seen.scan l.loop-seen.seen l.loop-seen.invariant
+            (inside i) (label d) (label_is d) x (same (agreed-of d)) p.room;
         near = label-near d;
         coarse = n.coarse-low ∴ n.middle ∴ n.fine-high ∴ simp ints (omega arith);
         fine = n.coarse-low ∴ n.middle ∴ n.fine-high ∴ simp ints (omega arith);
       };
     }
 
-behind : (c : After-find_behind-scan) → Finds (read_of (goal.at.After-find_behind-scan c).After-struct_told-in-loop-seen-2-1) c.find_behind-scan.result
-behind c =
-    let d = read_of (goal.at.After-find_behind-scan c).After-struct_told-in-loop-seen-2-1 in
+behind : (d : Read) → (here d).loop-seen.scan.walk.end ≤ℤ label d → (t : Scan) → let l = here d in let s = entry l in FoundBehind s.args.repeat (A s) (R s) (j-of d) l.loop-seen.scan t → Finds d t
+behind d h t e =
     let l = here d in
     let s = entry l in
     let p = s.requires.comparable in
-    scanned-behind s.args.by s.args.repeat (A s) (B s) (R s) s.args.period s.requires.alterable p.is-period p.in-range l.loop-seen.scan l.loop-seen.seen l.loop-seen.inv
-    (inside (in-of (agreed-of d))) (label d) (label_is d) (past (goal.at.After-find_behind-scan c).Else-j-walk) (same (agreed-of d)) p.room c.find_behind-scan.result (rw (j-read d) at c.find_behind-scan.ensures)
+    scanned-behind s.args.by s.args.repeat (A s) (B s) (R s) s.args.period s.requires.alterable p.is-period p.in-range l.loop-seen.scan l.loop-seen.seen l.loop-seen.invariant
+    (inside (in-of (agreed-of d))) (label d) (label_is d) h (same (agreed-of d)) p.room t (rw (j-read d) at e)
 
 -- ---- by either
 abbrev Known : Type 0
 Known = Joined-j-walk
 
-finds : (c : Known) → Finds (read_of (goal.at.Joined-j-walk c).After-struct_told-in-loop-seen-2-1) c.if-j-walk.scan
+finds : (c : Known) → Finds (goal.at.Joined-j-walk c).After-label_of-j c.if-j-walk.scan
 finds c =
-    let d = read_of (goal.at.Joined-j-walk c).After-struct_told-in-loop-seen-2-1 in
-    ⊎_elim
-    (λ w. subst (Finds d) (sym w.2) (ahead record { before = record { before = (goal.at.Joined-j-walk c).After-struct_told-in-loop-seen-2-1; if3 = w.0 }; find-ahead = w.1 }))
-    (λ w. subst (Finds d) (sym w.2) (behind record { before = record { before = (goal.at.Joined-j-walk c).After-struct_told-in-loop-seen-2-1; if3 = w.0 }; find-behind = w.1 }))
-    c.if-j-walk.branch-raw
+    let d = (goal.at.Joined-j-walk c).After-label_of-j in
+    elim c.if-j-walk.branch [
+      | then-j-walk w ↦ subst (Finds d) (sym w.scan-is) (ahead d w.find_ahead-scan.result w.find_ahead-scan.ensures)
+      | else-j-walk w ↦ subst (Finds d) (sym w.scan-is) (behind d (past d ((test-not-lt _ _).0 w.if-j-walk.false)) w.find_behind-scan.result w.find_behind-scan.ensures)
+    ]
 
 -- ---- its stretch
 pub compare_stretch-seen-requires : goal.compare_stretch-seen-requires
-compare_stretch-seen-requires c = let l = here (read_of (goal.at.compare_stretch-seen-requires c).After-struct_told-in-loop-seen-2-1) in record { room = room (entry l); follows = l.loop-seen.inv.stage.follows }
+compare_stretch-seen-requires c = let l = here ((goal.at.compare_stretch-seen-requires c).After-label_of-j) in record { room = room (entry l); follows = l.loop-seen.invariant.stage.follows }
 
 abbrev Passed : Type 0
 Passed = After-compare_stretch-seen
@@ -256,15 +254,15 @@ abbrev known_of : Passed → Known
 known_of c = (goal.at.After-compare_stretch-seen c).Joined-j-walk
 
 abbrev read_at : Passed → Read
-read_at c = read_of (known_of c).before
+read_at c = (goal.at.Joined-j-walk (known_of c)).After-label_of-j
 
-stretched : (c : Passed) → let l = here (read_at c) in let s = entry l in let t = (known_of c).if3.scan in
+stretched : (c : Passed) → let l = here (read_at c) in let s = entry l in let t = (known_of c).if-j-walk.scan in
     Stretched (some t.number) t.high (A s) (R s) s.args.period l.loop-seen.seen c.compare_stretch-seen.result
 stretched c =
-    let t = (known_of c).if3.scan in
+    let t = (known_of c).if-j-walk.scan in
     let n : SFits w64 t.number = sfits_of c.struct_told-in-loop-seen-3-1.given.1.1.0.1 in
     let h : SFits w64 t.high = sfits_of c.struct_told-in-loop-seen-4-1.given.1.1.1.0.1 in
-    rw (to_z-of_z n, to_z-of_z h) at c.compare_stretch-seen.ensures
+    rw (to_z-of_z {w = w64} n, to_z-of_z {w = w64} h) at c.compare_stretch-seen.ensures
 
 goes_on : (c : Passed) → (here (read_at c)).loop-seen.seen.t < c.compare_stretch-seen.result.t
 goes_on c =
@@ -272,8 +270,8 @@ goes_on c =
     let l = here d in
     let s = entry l in
     let p = s.requires.comparable in
-    found-on s.args.by s.args.repeat (A s) (B s) (R s) s.args.period s.requires.alterable p.is-period p.in-range l.loop-seen.scan l.loop-seen.seen l.loop-seen.inv
-    (inside (in-of (agreed-of d))) (label d) (label_is d) (known_of c).if3.scan (finds (known_of c)).0 c.compare_stretch-seen.result (stretched c)
+    found-on s.args.by s.args.repeat (A s) (B s) (R s) s.args.period s.requires.alterable p.is-period p.in-range l.loop-seen.scan l.loop-seen.seen l.loop-seen.invariant
+    (inside (in-of (agreed-of d))) (label d) (label_is d) (known_of c).if-j-walk.scan (finds (known_of c)).0 c.compare_stretch-seen.result (stretched c)
 
 pub loop-seen-smaller : goal.loop-seen-smaller
 loop-seen-smaller c = omega (arith, goes_on c, (stretched c).passed.follows.in-room)
@@ -285,8 +283,8 @@ loop-seen-preserved c =
     let s = entry l in
     let p = s.requires.comparable in
     let f = finds (known_of c) in
-    scanned-next s.args.by s.args.repeat (A s) (B s) (R s) s.args.period s.requires.alterable p.is-period p.in-range l.loop-seen.scan l.loop-seen.seen l.loop-seen.inv
-    (inside (in-of (agreed-of d))) (label d) (label_is d) (known_of c).if3.scan f.0 c.compare_stretch-seen.result (stretched c) f.1
+    scanned-next s.args.by s.args.repeat (A s) (B s) (R s) s.args.period s.requires.alterable p.is-period p.in-range l.loop-seen.scan l.loop-seen.seen l.loop-seen.invariant
+    (inside (in-of (agreed-of d))) (label d) (label_is d) (known_of c).if-j-walk.scan f.0 c.compare_stretch-seen.result (stretched c) f.1
 
 -- ---- the end
 pub returns-then-seen : goal.returns-then-seen

@@ -1,7 +1,5 @@
 -- `match_alter::match_alter` meets its contract: n and D are found, then check 11 is decided, and the labels are compared.
 -- Assumes nothing.
-use borrow.Author.Rules.{rules}
-use borrow.Author.Tests.{not-true, not-false}
 use mathlib.Core.Path.{◌≡◌, sym, ◌∙◌}
 use native.Mathlib.Omega.{arith}
 use Prim.Native.Nat.{◌≤◌}
@@ -37,7 +35,7 @@ b-stands : (s : Start) → Stands s.args.pool.now s.args.b
 b-stands s = record { is-sound = s.requires.fillable.sounds.1; fits = s.requires.claimed.b_end }
 
 few : (s : Start) → s.args.period ≤ pool_limit
-few s = omega (arith, s.requires.claimed.room, s.requires.claimed.at_most)
+few s = omega (arith, s.requires.claimed.room, s.requires.claimed.at-most)
 
 abbrev Lent : Type 0
 Lent = After-cells_of-b_cells
@@ -57,7 +55,8 @@ repeat_of-repeat-requires c =
     let l = (goal.at.repeat_of-repeat-requires c).After-cells_of-b_cells in
     let s = entry l in
     let e = to_z-of_z s.ranges.span ∙ s.requires.claimed.is-span in
-    record { fillable = (same_rows (λ x y. Fillable (Alter s.args.by) x y × Span s.args.by x y (to_z w64 (of_z w64 s.args.span))) (sym (a-is l)) (sym (b-is l)) (s.requires.fillable, e)).0; span_value = (same_rows (λ x y. Fillable (Alter s.args.by) x y × Span s.args.by x y (to_z w64 (of_z w64 s.args.span))) (sym (a-is l)) (sym (b-is l)) (s.requires.fillable, e)).1 }
+    let k = same_rows (λ x y. Fillable (Alter s.args.by) x y × Span s.args.by x y (to_z w64 (of_z w64 s.args.span))) (sym (a-is l)) (sym (b-is l)) (s.requires.fillable, e) in
+    record { fillable = k.0; span_value = k.1 }
 
 abbrev Repeated : Type 0
 Repeated = After-repeat_of-repeat
@@ -83,7 +82,7 @@ returns-then-not-in_limits c =
     let k = (goal.at.returns-then-not-in_limits c).After-in_limits in
     let d = (goal.at.After-in_limits k).After-repeat_of-repeat in
     let s = start d in
-    out_of_range s.args.by d.repeat_of-repeat.result (A s) (B s) (row_in s.args.pool.now s.args.r) (alterable d) (sym k.in_limits.ensures ∙ not-true _ c.if-not-in_limits.true-raw)
+    out_of_range s.args.by d.repeat_of-repeat.result (A s) (B s) (row_in s.args.pool.now s.args.r) (alterable d) (sym k.in_limits.ensures ∙ c.if-not-in_limits.true)
 
 pub compare-requires : goal.compare-requires
 compare-requires c =
@@ -95,10 +94,10 @@ compare-requires c =
         a-stands = a-stands s;
         b-stands = b-stands s;
         r-stands = s.requires.claimed.claim;
-        few = s.requires.claimed.at_most;
+        few = s.requires.claimed.at-most;
         room = few s;
         is-period = s.requires.claimed.is-period;
-        in-range = sym k.in_limits.ensures ∙ not-false _ c.if-not-in_limits.false-raw;
+        in-range = sym k.in_limits.ensures ∙ c.if-not-in_limits.false;
       };
     }
 
