@@ -1,22 +1,18 @@
 -- What the loop of combine keeps between two granules of b, and what holds behind the next one.
 -- Assumes nothing.
-use mathlib.Core.Path.{◌≡◌, refl, sym, ◌∙◌, ap}
+use mathlib.Core.Path.{◌≡◌, refl, sym, ◌∙◌}
 use mathlib.Core.Option.{Option, none, some}
 use mathlib.Core.Bool.{Bool, true, false, ◌||◌}
 use mathlib.Core.List.{List}
 use Prim.Native.Nat.{ℕ, ◌<◌}
-use native.Mathlib.Omega.{arith}
 use lib.IntN.{ℤ, pos}
-use Rattle.integers.proofs.Linear.{ints}
 use Rattle.calendar.specs.Meaning.{meant}
 use Rattle.calendar.specs.Operation.Binary.{combine}
 use Rattle.calendar.specs.Operation.Operation.{binary}
-use Rattle.calendar.specs.Lists.{is_some, if_label, first}
-use Rattle.calendar.specs.Granules.{granule}
+use Rattle.calendar.specs.Lists.{is_some, if_label}
 use Rattle.calendar.specs.Compute.{result, cell_of}
 use Rattle.calendar.specs.Limits.{in_range}
 use Rattle.granules.specs.Valid.{Valid}
-use Rattle.granules.proofs.Tests.{true≢false}
 use Rattle.cursors.specs.declared.Cursor.{Cursor}
 use Rattle.cursors.specs.Cursor.{cursor_at}
 use Rattle.kinds.specs.declared.Kind.TheVariants.{Combine}

@@ -12,12 +12,10 @@ use Rattle.calendar.specs.Meaning.{Row, meant}
 use Rattle.calendar.specs.Operation.{Selection as Selections}
 use Rattle.calendar.specs.Operation.Binary.{select}
 use Rattle.calendar.specs.Operation.Operation.{binary}
-use Rattle.calendar.specs.Lists.{is_some, if_label, on_label, only, equal, first}
-use Rattle.calendar.specs.Granules.{granule}
+use Rattle.calendar.specs.Lists.{is_some, if_label, on_label, only, equal}
 use Rattle.calendar.specs.Compute.{result, selects, cell_of}
 use Rattle.calendar.specs.Limits.{in_range}
 use Rattle.granules.specs.Valid.{Valid}
-use Rattle.granules.proofs.Tests.{true≢false}
 use Rattle.cursors.specs.declared.Cursor.{Cursor}
 use Rattle.cursors.specs.Cursor.{cursor_at}
 use Rattle.kinds.specs.declared.Selection.{Selection}

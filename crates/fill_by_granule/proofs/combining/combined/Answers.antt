@@ -1,6 +1,5 @@
 -- `fill_by_granule::combining::combined` meets its contract.
 -- Assumes nothing.
-use borrow.Author.Rules.{rules}
 use mathlib.Core.Path.{◌≡◌, sym, ◌∙◌}
 use native.Mathlib.Omega.{arith}
 use Rattle.integers.proofs.Linear.{ints, ◌∴◌}

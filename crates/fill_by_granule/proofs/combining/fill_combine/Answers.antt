@@ -1,6 +1,6 @@
 -- `fill_by_granule::combining::fill_combine` meets its contract: along a row of one cell a shift by 0 has the same working row.
 -- Assumes nothing.
-use borrow.Author.Rules.{rules, sfits_of}
+use borrow.Author.Rules.{sfits_of}
 use mathlib.Core.Path.{◌≡◌}
 use lib.IntN.{pos}
 use mir.Facts.{sfits_lit, to_z-of_z}
@@ -24,9 +24,10 @@ fill_shift-requires c =
     let s = start d in
     let a = s.args in
     let g = s.requires.fillable in
-    record { fillable = (rw (to_z-of_z (sfits_of c.struct_told-then-b-eq1-1.given.1.0.1))
-    (own-fillable a.a a.b a.pool.now g.sounds (one d) g.at-most, own-placed a.a a.b a.pool.now g.sounds (one d) Combine a.span a.at a.period s.requires.placed (combine-owned a.a a.b a.pool.now g.sounds (one d)))).0; placed = (rw (to_z-of_z (sfits_of c.struct_told-then-b-eq1-1.given.1.0.1))
-    (own-fillable a.a a.b a.pool.now g.sounds (one d) g.at-most, own-placed a.a a.b a.pool.now g.sounds (one d) Combine a.span a.at a.period s.requires.placed (combine-owned a.a a.b a.pool.now g.sounds (one d)))).1 }
+    record {
+      fillable = own-fillable a.a a.b a.pool.now g.sounds (one d) g.at-most;
+      placed = rw (to_z-of_z {w = w64} {z = a.a.period} (sfits_of c.struct_told-then-b-eq1-1.given.1.0.1)) (own-placed a.a a.b a.pool.now g.sounds (one d) Combine a.span a.at a.period s.requires.placed (combine-owned a.a a.b a.pool.now g.sounds (one d)));
+    }
 
 pub shape_of-pool-then-b-eq1 : goal.shape_of-pool-then-b-eq1
 shape_of-pool-then-b-eq1 c = c.fill_shift.ensures.lengths

@@ -21,7 +21,7 @@ use Rattle.kinds.specs.Stands.{row_in}
 use Rattle.fill_shared.specs.declared.Filled.{Filled}
 use Rattle.fill_shared.proofs.Cells.{lent_is}
 use Rattle.fill_shared.specs.Placed.{Fills}
-use Rattle.fill_shared.proofs.Filling.{Lent, Filling, lent_as, lent_of, row_of, first_two, fills_two, filling-length, rows-stood, rows-kept, filling-out, filling-done}
+use Rattle.fill_shared.proofs.Filling.{Lent, Filling, lent_of, row_of, first_two, fills_two, filling-length, rows-stood, rows-kept, filling-out, filling-done}
 use Rattle.fill_stretches.proofs.Stretching.{filling-led}
 use Rattle.fill_by_granule.proofs.Combines.{Combining, unlabelled, combining-none, combining-next, granule-on}
 use borrow.Author.Tests.{not-false, not-true}
@@ -40,9 +40,18 @@ use Rattle.fill_shared.proofs.Points.{label_small}
 use Rattle.fill_stretches.specs.Stretch.{Stretched, Follows}
 use Rattle.fill_stretches.proofs.Stages.{cell-fits, room-b}
 use lib.Signed.{◌≤ℤ◌}
-use Rattle.fill_by_granule.proofs.combining.fill_granules.Invariants.{Base, entry, old}
 use Rattle.fill_by_granule.proofs.combining.fill_granules.Goals as goal
-use Rattle.fill_by_granule.proofs.combining.fill_granules.Goals.{After-combined-label, After-cursor_at-a_cursor, After-cursor_on-a_cursor, After-end_of-a_end, After-fill_leading-reached, After-fill_stretch-next, After-label_of-k, After-struct_told-3-1, After-struct_told-4-1, At-loop-reached, Else-not-in_limits, In-loop-reached, Start}
+use Rattle.fill_by_granule.proofs.combining.fill_granules.Goals.{After-combined-label, After-cursor_at-a_cursor, After-cursor_on-a_cursor, After-end_of-a_end, After-fill_leading-reached, After-fill_stretch-next, After-label_of-k, After-struct_told-4-1, At-loop-reached, Else-not-in_limits, In-loop-reached, Start}
+
+-- ---- the rows that are lent, as they stood before the loop
+abbrev Base : Type 0
+Base = After-struct_told-4-1
+
+abbrev entry : Base → Start
+entry k = (goal.at.After-struct_told-4-1 k).Start
+
+abbrev old : Base → List ℤ
+old k = (entry k).args.pool.now
 
 abbrev A : Base → Lent
 A k = lent_of (entry k).args.a k.end_of-a_end.result
@@ -71,7 +80,7 @@ start k =
     first_two _ _ refl s.args.a s.args.b _ _ _ _ _ k.end_of-a_end.ensures (a-is k) _ k.end_of-b_end.ensures (b-is k) s.requires.fillable s.requires.placed
 
 -- what the loop ensures, over the operands
-as-filled : (k : Base) (new : List ℤ) (r : Filled_own) → let s = entry k in Fills (operation_of Combine (a-row k) (b-row k)) s.args.at s.args.period (old k) new r
+as-filled : (k : Base) (new : List ℤ) (r : Filled) → let s = entry k in Fills (operation_of Combine (a-row k) (b-row k)) s.args.at s.args.period (old k) new r
     → Fills (operation_of Combine (row_in (old k) s.args.a) (row_in (old k) s.args.b)) s.args.at s.args.period (old k) new r
 as-filled k new r h =
     let s = entry k in
@@ -85,10 +94,10 @@ b-sound k = (start k).lends.is-fillable.sounds.1
 
 -- the parts that are lent lie in the pool
 a-part : (k : Base) (new : List ℤ) → length new ≡ length (old k) → ((A k).start ≤ (A k).end) × ((A k).end ≤ length new) × ((A k).end ≤ pool_limit)
-a-part k new e = let l = (start k).lends in (l.a_start, omega (arith, l.a_end, l.room), omega (arith, l.a_end, l.room, l.few))
+a-part k new e = let l = (start k).lends in (l.a-start, omega (arith, l.a-end, l.room), omega (arith, l.a-end, l.room, l.few))
 
 b-part : (k : Base) (new : List ℤ) → length new ≡ length (old k) → ((B k).start ≤ (B k).end) × ((B k).end ≤ length new) × ((B k).end ≤ pool_limit)
-b-part k new e = let l = (start k).lends in (l.b_start, omega (arith, l.b_end, l.room), omega (arith, l.b_end, l.room, l.few))
+b-part k new e = let l = (start k).lends in (l.b-start, omega (arith, l.b_end, l.room), omega (arith, l.b_end, l.room, l.few))
 
 -- ---- up to the first label
 -- the pool then
@@ -130,35 +139,35 @@ abbrev at_of : In → At
 at_of c = (goal.at.In-loop-reached c).At-loop-reached
 
 abbrev base : At → Base
-base l = (goal.at.At-loop-reached l).After-struct_told-3-1
+base l = (goal.at.At-loop-reached l).After-struct_told-4-1
 
 -- what holds then, over any pool in which the rows stood
 abbrev Holds : At → List ℤ → Type 0
 Holds l x =
     let k = base l in
     let s = entry k in
-    Combining (A k) (B k) s.args.at s.args.period x l.loop-reached.pool-1 l.loop-reached.reached l.loop-reached.a_cursor l.loop-reached.fresh l.loop-reached.labelled
+    Combining (A k) (B k) s.args.at s.args.period x l.loop-reached.pool l.loop-reached.reached l.loop-reached.a_cursor l.loop-reached.fresh l.loop-reached.labelled
 
 holds : (l : At) → Holds l (old (base l))
 holds l = l.loop-reached.invariant (old (base l)) (started (goal.at.At-loop-reached l).After-cursor_at-a_cursor)
 
-same : (l : At) → length l.loop-reached.pool-1 ≡ length (old (base l))
+same : (l : At) → length l.loop-reached.pool ≡ length (old (base l))
 same l = filling-length _ _ _ _ _ _ _ _ _ (holds l).stage.filling
 
 -- the instant is before the last one
-inside : (c : In) → (at_of c).loop.reached.t < (entry (base (at_of c))).args.period
+inside : (c : In) → (at_of c).loop-reached.reached.t < (entry (base (at_of c))).args.period
 inside c = c.loop-reached-test.true
 
 -- and so is near
-few : (c : In) → (at_of c).loop.reached.t < pool_limit
+few : (c : In) → (at_of c).loop-reached.reached.t < pool_limit
 few c = let l = (holds (at_of c)).stage.filling.lends in omega (arith, inside c, l.room, l.few)
 
 module _ (l : At) (x : List ℤ) (h : Holds l x) where
   -- what holds of the rows as they stood holds of them as they stand, and back
-  pub kept : (P : Row → Row → Type 0) → let k = base l in P (row_of (A k) x) (row_of (B k) x) → P (row_of (A k) l.loop-reached.pool-1) (row_of (B k) l.loop-reached.pool-1)
+  pub kept : (P : Row → Row → Type 0) → let k = base l in P (row_of (A k) x) (row_of (B k) x) → P (row_of (A k) l.loop-reached.pool) (row_of (B k) l.loop-reached.pool)
   kept P p = rows-kept _ _ _ _ _ _ _ _ _ h.stage.filling P p
 
-  pub stood : (P : Row → Row → Type 0) → let k = base l in P (row_of (A k) l.loop-reached.pool-1) (row_of (B k) l.loop-reached.pool-1) → P (row_of (A k) x) (row_of (B k) x)
+  pub stood : (P : Row → Row → Type 0) → let k = base l in P (row_of (A k) l.loop-reached.pool) (row_of (B k) l.loop-reached.pool) → P (row_of (A k) x) (row_of (B k) x)
   stood P p = rows-stood _ _ _ _ _ _ _ _ _ h.stage.filling P p
 
   pub rows-sound : let k = base l in (sound (row_of (A k) x) ≡ true) × (sound (row_of (B k) x) ≡ true)
@@ -195,7 +204,7 @@ label-fits c =
 -- what is asked of the rows x and y: t is the instant and k the label
 abbrev Asks : (l : At) → ℤ → ℤ → Row → Row → Type 0
 Asks l t k x y =
-    (sound x ≡ true) × ((sound y ≡ true) × (Within (2 ^ 59) t × ((meant y t ≡ some k) × ((l.loop-reached.a_cursor ≡ cursor_at x t) × ((l.loop-reached.reached.cursor ≡ cursor_at y t) × (l.loop-reached.fresh ≡ true → t ≡ first (granule y k)))))))
+    (sound x ≡ true) × (sound y ≡ true) × Within (2 ^ 59) t × (meant y t ≡ some k) × (l.loop-reached.a_cursor ≡ cursor_at x t) × (l.loop-reached.reached.cursor ≡ cursor_at y t) × (l.loop-reached.fresh ≡ true → t ≡ first (granule y k))
 
 abbrev Labelled : Type 0
 Labelled = After-combined-label
@@ -239,11 +248,11 @@ cell-is c =
     to_z-of_z (rw (sym e) at (cell-fits (given-label (labelled-of c)) r)) ∙ e
 
 stretched : (c : Filled_own) (x : List ℤ) → Holds (at-filled c) x → let l = at-filled c in let k = base l in
-    Stretched (cell_of (given-label (labelled-of c))) (label (shown (labelled-of c))) (row_of (B k) x) (entry k).args.at (entry k).args.period l.loop-reached.pool-1 l.loop-reached.reached c.fill_stretch-next.result (filled-pool c)
+    Stretched (cell_of (given-label (labelled-of c))) (label (shown (labelled-of c))) (row_of (B k) x) (entry k).args.at (entry k).args.period l.loop-reached.pool l.loop-reached.reached c.fill_stretch-next.result (filled-pool c)
 stretched c x h =
     let l = at-filled c in
     let k = base l in
-    stood l x h (λ y z. Stretched (cell_of (given-label (labelled-of c))) (label (shown (labelled-of c))) z (entry k).args.at (entry k).args.period l.loop-reached.pool-1 l.loop-reached.reached c.fill_stretch-next.result (filled-pool c))
+    stood l x h (λ y z. Stretched (cell_of (given-label (labelled-of c))) (label (shown (labelled-of c))) z (entry k).args.at (entry k).args.period l.loop-reached.pool l.loop-reached.reached c.fill_stretch-next.result (filled-pool c))
     (rw (cell-is c, to_z-of_z (label-fits (shown (labelled-of c)))) at c.fill_stretch-next.ensures)
 
 -- what holds behind them, with the next cursor in a
@@ -256,7 +265,7 @@ filled c x h next e =
     combining-next (A k) (B k) _ _ x _ _ _ _ _ h (inside (in-of (shown y))) (label (shown y)) (label_is (shown y) x h) _ _ (given-label y) (given-result y x h) (in-range (goal.at.After-fill_stretch-next c).Else-not-in_limits) (stretched c x h)
     (valid (B k).period (B k).distance (row_of (B k) x).cells (rows-sound l x h).1) next e
 
-goes_on : (c : Filled_own) → (at-filled c).loop.reached.t < c.fill_stretch-next.result.t
+goes_on : (c : Filled_own) → (at-filled c).loop-reached.reached.t < c.fill_stretch-next.result.t
 goes_on c =
     let l = at-filled c in
     let k = base l in
@@ -265,10 +274,10 @@ goes_on c =
 
 -- ---- the rows that are lent
 pub end_of-a_end-requires : goal.end_of-a_end-requires
-end_of-a_end-requires c = record { pos_bound = c.requires.placed.a_period; a_bound = c.requires.placed.a_end }
+end_of-a_end-requires c = record { pos_bound = c.requires.placed.a-period; a_bound = c.requires.placed.a-end }
 
 pub end_of-b_end-requires : goal.end_of-b_end-requires
-end_of-b_end-requires c = let s = (goal.at.end_of-b_end-requires c).Start in record { pos_bound = s.requires.placed.b_period; a_bound = s.requires.placed.b_end }
+end_of-b_end-requires c = let s = (goal.at.end_of-b_end-requires c).Start in record { pos_bound = s.requires.placed.b-period; a_bound = s.requires.placed.b_end }
 
 -- ---- up to the first label
 pub fill_leading-reached-requires : goal.fill_leading-reached-requires
@@ -301,16 +310,16 @@ loop-reached-init c = λ x h. h
 
 -- ---- a granule
 pub offset_bounds-pool-b_start : goal.offset_bounds-pool-b_start
-offset_bounds-pool-b_start c = let l = at_of c in let h = b-part (base l) l.loop-reached.pool-1 (same l) in omega arith
+offset_bounds-pool-b_start c = let l = at_of c in let h = b-part (base l) l.loop-reached.pool (same l) in omega arith
 
 pub slice_bounds-label_of-count : goal.slice_bounds-label_of-count
-slice_bounds-label_of-count c = let l = at_of c in (b-part (base l) l.loop-reached.pool-1 (same l)).0
+slice_bounds-label_of-count c = let l = at_of c in (b-part (base l) l.loop-reached.pool (same l)).0
 
 pub slice_bounds-label_of-start : goal.slice_bounds-label_of-start
-slice_bounds-label_of-start c = let l = at_of (goal.at.slice_bounds-label_of-start c).In-loop-reached in (b-part (base l) l.loop-reached.pool-1 (same l)).0
+slice_bounds-label_of-start c = let l = at_of (goal.at.slice_bounds-label_of-start c).In-loop-reached in (b-part (base l) l.loop-reached.pool (same l)).0
 
 pub slice_bounds-label_of-end : goal.slice_bounds-label_of-end
-slice_bounds-label_of-end c = let l = at_of (goal.at.slice_bounds-label_of-end c).In-loop-reached in (b-part (base l) l.loop-reached.pool-1 (same l)).1
+slice_bounds-label_of-end c = let l = at_of (goal.at.slice_bounds-label_of-end c).In-loop-reached in (b-part (base l) l.loop-reached.pool (same l)).1
 
 pub label_of-k-requires : goal.label_of-k-requires
 label_of-k-requires c =
@@ -319,34 +328,34 @@ label_of-k-requires c =
     let k = base l in
     let h = holds l in
     let n = few i in
-    record { sound = (kept l (old k) h (λ x y. (sound y ≡ true) × Shown_own y l.loop-reached.reached.cursor) (b-sound k, (pos l.loop-reached.reached.t, simp ints (omega arith), h.stage.follows.cursor, h.stage.stops (inside i)))).0; shown = (kept l (old k) h (λ x y. (sound y ≡ true) × Shown_own y l.loop-reached.reached.cursor) (b-sound k, (pos l.loop-reached.reached.t, simp ints (omega arith), h.stage.follows.cursor, h.stage.stops (inside i)))).1 }
+    record { sound = (kept l (old k) h (λ x y. (sound y ≡ true) × Shown y l.loop-reached.reached.cursor) (b-sound k, (pos l.loop-reached.reached.t, simp ints (omega arith), h.stage.follows.cursor, h.stage.stops (inside i)))).0; shown = (kept l (old k) h (λ x y. (sound y ≡ true) × Shown y l.loop-reached.reached.cursor) (b-sound k, (pos l.loop-reached.reached.t, simp ints (omega arith), h.stage.follows.cursor, h.stage.stops (inside i)))).1 }
 
 pub overflow_cast-reached-in-loop-reached : goal.overflow_cast-reached-in-loop-reached
 overflow_cast-reached-in-loop-reached c = let h = few (in-of (goal.at.overflow_cast-reached-in-loop-reached c).After-label_of-k) in simp ints (omega arith)
 
 pub offset_bounds-pool-a_start-in-loop-reached : goal.offset_bounds-pool-a_start-in-loop-reached
-offset_bounds-pool-a_start-in-loop-reached c = let l = loop-at (goal.at.offset_bounds-pool-a_start-in-loop-reached c).After-label_of-k in let h = a-part (base l) l.loop-reached.pool-1 (same l) in omega arith
+offset_bounds-pool-a_start-in-loop-reached c = let l = loop-at (goal.at.offset_bounds-pool-a_start-in-loop-reached c).After-label_of-k in let h = a-part (base l) l.loop-reached.pool (same l) in omega arith
 
 pub slice_bounds-combined-count : goal.slice_bounds-combined-count
-slice_bounds-combined-count c = let l = loop-at (goal.at.slice_bounds-combined-count c).After-label_of-k in (a-part (base l) l.loop-reached.pool-1 (same l)).0
+slice_bounds-combined-count c = let l = loop-at (goal.at.slice_bounds-combined-count c).After-label_of-k in (a-part (base l) l.loop-reached.pool (same l)).0
 
 pub slice_bounds-combined-start : goal.slice_bounds-combined-start
-slice_bounds-combined-start c = let l = loop-at (goal.at.slice_bounds-combined-start c).After-label_of-k in (a-part (base l) l.loop-reached.pool-1 (same l)).0
+slice_bounds-combined-start c = let l = loop-at (goal.at.slice_bounds-combined-start c).After-label_of-k in (a-part (base l) l.loop-reached.pool (same l)).0
 
 pub slice_bounds-combined-end : goal.slice_bounds-combined-end
-slice_bounds-combined-end c = let l = loop-at (goal.at.slice_bounds-combined-end c).After-label_of-k in (a-part (base l) l.loop-reached.pool-1 (same l)).1
+slice_bounds-combined-end c = let l = loop-at (goal.at.slice_bounds-combined-end c).After-label_of-k in (a-part (base l) l.loop-reached.pool (same l)).1
 
 pub offset_bounds-pool-b_start-in-loop-reached : goal.offset_bounds-pool-b_start-in-loop-reached
-offset_bounds-pool-b_start-in-loop-reached c = let l = loop-at (goal.at.offset_bounds-pool-b_start-in-loop-reached c).After-label_of-k in let h = b-part (base l) l.loop-reached.pool-1 (same l) in omega arith
+offset_bounds-pool-b_start-in-loop-reached c = let l = loop-at (goal.at.offset_bounds-pool-b_start-in-loop-reached c).After-label_of-k in let h = b-part (base l) l.loop-reached.pool (same l) in omega arith
 
 pub slice_bounds-combined-count-in-loop-reached : goal.slice_bounds-combined-count-in-loop-reached
-slice_bounds-combined-count-in-loop-reached c = let l = loop-at (goal.at.slice_bounds-combined-count-in-loop-reached c).After-label_of-k in (b-part (base l) l.loop-reached.pool-1 (same l)).0
+slice_bounds-combined-count-in-loop-reached c = let l = loop-at (goal.at.slice_bounds-combined-count-in-loop-reached c).After-label_of-k in (b-part (base l) l.loop-reached.pool (same l)).0
 
 pub slice_bounds-combined-start-in-loop-reached : goal.slice_bounds-combined-start-in-loop-reached
-slice_bounds-combined-start-in-loop-reached c = let l = loop-at (goal.at.slice_bounds-combined-start-in-loop-reached c).After-label_of-k in (b-part (base l) l.loop-reached.pool-1 (same l)).0
+slice_bounds-combined-start-in-loop-reached c = let l = loop-at (goal.at.slice_bounds-combined-start-in-loop-reached c).After-label_of-k in (b-part (base l) l.loop-reached.pool (same l)).0
 
 pub slice_bounds-combined-end-in-loop-reached : goal.slice_bounds-combined-end-in-loop-reached
-slice_bounds-combined-end-in-loop-reached c = let l = loop-at (goal.at.slice_bounds-combined-end-in-loop-reached c).After-label_of-k in (b-part (base l) l.loop-reached.pool-1 (same l)).1
+slice_bounds-combined-end-in-loop-reached c = let l = loop-at (goal.at.slice_bounds-combined-end-in-loop-reached c).After-label_of-k in (b-part (base l) l.loop-reached.pool (same l)).1
 
 pub combined-label-requires : goal.combined-label-requires
 combined-label-requires c =
@@ -358,14 +367,10 @@ combined-label-requires c =
     let m : l.loop-reached.reached.t < 2 ^ 63 = omega arith in
     let j = label-fits s in
     let e = label_is s (old k) h in
-    record { sound = (kept l (old k) h (Asks l (to_z w64 (of_z w64 (pos l.loop-reached.reached.t))) (to_z w64 (of_z w64 (label s))))
-    (simp plain (a-sound k, (b-sound k, (simp ints (omega arith), (e, (h.is-cursor, (h.stage.follows.cursor, λ f. h.begins f (inside (in-of s)) (label s) e)))))))).0; sound_2 = (kept l (old k) h (Asks l (to_z w64 (of_z w64 (pos l.loop-reached.reached.t))) (to_z w64 (of_z w64 (label s))))
-    (simp plain (a-sound k, (b-sound k, (simp ints (omega arith), (e, (h.is-cursor, (h.stage.follows.cursor, λ f. h.begins f (inside (in-of s)) (label s) e)))))))).1; within = (kept l (old k) h (Asks l (to_z w64 (of_z w64 (pos l.loop-reached.reached.t))) (to_z w64 (of_z w64 (label s))))
-    (simp plain (a-sound k, (b-sound k, (simp ints (omega arith), (e, (h.is-cursor, (h.stage.follows.cursor, λ f. h.begins f (inside (in-of s)) (label s) e)))))))).2; t_value = (kept l (old k) h (Asks l (to_z w64 (of_z w64 (pos l.loop-reached.reached.t))) (to_z w64 (of_z w64 (label s))))
-    (simp plain (a-sound k, (b-sound k, (simp ints (omega arith), (e, (h.is-cursor, (h.stage.follows.cursor, λ f. h.begins f (inside (in-of s)) (label s) e)))))))).3; a_value = (kept l (old k) h (Asks l (to_z w64 (of_z w64 (pos l.loop-reached.reached.t))) (to_z w64 (of_z w64 (label s))))
-    (simp plain (a-sound k, (b-sound k, (simp ints (omega arith), (e, (h.is-cursor, (h.stage.follows.cursor, λ f. h.begins f (inside (in-of s)) (label s) e)))))))).4; b_value = (kept l (old k) h (Asks l (to_z w64 (of_z w64 (pos l.loop-reached.reached.t))) (to_z w64 (of_z w64 (label s))))
-    (simp plain (a-sound k, (b-sound k, (simp ints (omega arith), (e, (h.is-cursor, (h.stage.follows.cursor, λ f. h.begins f (inside (in-of s)) (label s) e)))))))).5; t_value_2 = (kept l (old k) h (Asks l (to_z w64 (of_z w64 (pos l.loop-reached.reached.t))) (to_z w64 (of_z w64 (label s))))
-    (simp plain (a-sound k, (b-sound k, (simp ints (omega arith), (e, (h.is-cursor, (h.stage.follows.cursor, λ f. h.begins f (inside (in-of s)) (label s) e)))))))).6 }
+    let T = to_z w64 (of_z w64 (pos l.loop-reached.reached.t)) in
+    let J = to_z w64 (of_z w64 (label s)) in
+    let r : Asks l T J (row_of (A k) l.loop-reached.pool) (row_of (B k) l.loop-reached.pool) = kept l (old k) h (Asks l T J) (simp plain (a-sound k, b-sound k, simp ints (omega arith), e, h.is-cursor, h.stage.follows.cursor, λ f. h.begins f (inside (in-of s)) (label s) e)) in
+    record { sound = r.0; sound_2 = r.1; within = r.2; t_value = r.3; a_value = r.4; b_value = r.5; t_value_2 = r.6 }
 
 pub shape_of-pool-then-not-in_limits : goal.shape_of-pool-then-not-in_limits
 shape_of-pool-then-not-in_limits c = same (at_label (goal.at.shape_of-pool-then-not-in_limits c).After-combined-label)
@@ -422,13 +427,10 @@ cursor_on-a_cursor-requires c =
     let g = goes_on f in
     let m : f.fill_stretch-next.result.t - p < 2 ^ 63 = omega arith in
     let h = holds l in
-    record { sound = (rows-kept _ _ _ _ _ _ _ _ _ (filled f (old k) h _ refl).stage.filling
-    (λ x y. (sound x ≡ true) × (Standing x l.loop-reached.a_cursor × ((pos 0 ≤ℤ to_z w64 (of_z w64 (pos (f.fill_stretch-next.result.t - p)))) × (to_z w64 (of_z w64 (pos (f.fill_stretch-next.result.t - p))) ≤ℤ pos (2 ^ 32)))))
-    (simp plain (a-sound k, ((pos p, simp ints (omega arith), h.is-cursor), (simp ints (omega arith), simp ints (omega arith)))))).0; standing = (rows-kept _ _ _ _ _ _ _ _ _ (filled f (old k) h _ refl).stage.filling
-    (λ x y. (sound x ≡ true) × (Standing x l.loop-reached.a_cursor × ((pos 0 ≤ℤ to_z w64 (of_z w64 (pos (f.fill_stretch-next.result.t - p)))) × (to_z w64 (of_z w64 (pos (f.fill_stretch-next.result.t - p))) ≤ℤ pos (2 ^ 32)))))
-    (simp plain (a-sound k, ((pos p, simp ints (omega arith), h.is-cursor), (simp ints (omega arith), simp ints (omega arith)))))).1; pos_bound = (rows-kept _ _ _ _ _ _ _ _ _ (filled f (old k) h _ refl).stage.filling
-    (λ x y. (sound x ≡ true) × (Standing x l.loop-reached.a_cursor × ((pos 0 ≤ℤ to_z w64 (of_z w64 (pos (f.fill_stretch-next.result.t - p)))) × (to_z w64 (of_z w64 (pos (f.fill_stretch-next.result.t - p))) ≤ℤ pos (2 ^ 32)))))
-    (simp plain (a-sound k, ((pos p, simp ints (omega arith), h.is-cursor), (simp ints (omega arith), simp ints (omega arith)))))).2 }
+    let D = to_z w64 (of_z w64 (pos (f.fill_stretch-next.result.t - p))) in
+    let r = rows-kept _ _ _ _ _ _ _ _ _ (filled f (old k) h _ refl).stage.filling (λ x y. (sound x ≡ true) × Standing x l.loop-reached.a_cursor × ((pos 0 ≤ℤ D) × (D ≤ℤ pos (2 ^ 32))))
+    (simp plain (a-sound k, (pos p, simp ints (omega arith), h.is-cursor), (simp ints (omega arith), simp ints (omega arith)))) in
+    record { sound = r.0; standing = r.1; pos_bound = r.2 }
 
 -- the cursor of the next instant
 next-cursor : (c : After-cursor_on-a_cursor) (x : List ℤ) → let f = (goal.at.After-cursor_on-a_cursor c).After-fill_stretch-next in let l = at-filled f in Holds l x

@@ -1,6 +1,6 @@
 -- `fill_by_granule::combining::lies` meets its contract: where a has a label at t, the walk from there says whether the granule lies in a's.
 -- Assumes nothing.
-use borrow.Author.Rules.{rules, sfits_of}
+use borrow.Author.Rules.{rules}
 use mathlib.Core.Path.{◌≡◌, sym, ◌∙◌, ap}
 use mathlib.Core.Bool.{Bool, true}
 use mathlib.Core.Option.{some}
@@ -53,7 +53,7 @@ pub returns-in_default : goal.returns-in_default
 returns-in_default c =
     let d = (goal.at.returns-in_default c).After-cursor_label-outer in
     let s = (goal.at.After-cursor_label-outer d).Start in
-    sym (ap (lies_in (a-row s) (b-row s) s.args.k) (label_is d ∙ ap found c.enum_told-1.given.1))
+    sym (ap (lies_in (a-row s) (b-row s) s.args.k) (label_is d ∙ ap found c.in_default.is))
 
 -- ---- there is one
 abbrev Shown : Type 0
@@ -63,13 +63,13 @@ abbrev start : Shown → Start
 start c = (goal.at.In-At c).Start
 
 abbrev label : Shown → ℤ
-label c = c.outer-1.given.0.0
+label c = c.in-At.i
 
 label-fits : (c : Shown) → SFits w64 (label c)
-label-fits c = sfits_of c.known_told-1.given.0.1
+label-fits c = search rules
 
 label-some : (c : Shown) → meant (a-row (start c)) (start c).args.t ≡ some (label c)
-label-some c = label_is (goal.at.In-At c).After-cursor_label-outer ∙ ap found c.outer-1.given.1
+label-some c = label_is (goal.at.In-At c).After-cursor_label-outer ∙ ap found c.in-At.is
 
 abbrev place : Shown → CursorPair
 place c = let s = start c in record { b = s.args.b; k = s.args.k; a = s.args.a; i = label c }
@@ -78,10 +78,10 @@ placed : (c : Shown) → Overlaps (b-row (start c)) (a-row (start c)) (place c)
 placed c =
     let s = start c in
     let h = s.requires.within in
-    overlaps (b-row s) (a-row s) (b-valid s) (place c) s.args.t h.0.0 h.0.1 h.1.1.1.0 h.1.0 h.1.1.0 (label-some c)
+    overlaps (b-row s) (a-row s) (b-valid s) (place c) s.args.t h.0 h.1 s.requires.b_value s.requires.t_value s.requires.a_value (label-some c)
 
 is-first : (c : Shown) → let s = start c in s.args.fresh ≡ true → at (b-row s) (place c) ≡ first (granule (b-row s) s.args.k)
-is-first c e = let s = start c in let h = s.requires.b_value in instant-is (b-row s) (b-valid s) s.args.b s.args.t h.0 ∙ h.1 e
+is-first c e = let s = start c in instant-is (b-row s) (b-valid s) s.args.b s.args.t s.requires.b_value ∙ s.requires.t_value_2 e
 
 pub inside_from_first-requires : goal.inside_from_first-requires
 inside_from_first-requires c =
@@ -93,7 +93,7 @@ inside_from_first-requires c =
     let m = s.ranges.b_distance in
     let k = s.ranges.k in
     let i = label-fits d in
-    record { sound = (simp plain (s.requires.sound_2, (s.requires.sound, (placed d, is-first d c.if-fresh.true)))).0; sound_2 = (simp plain (s.requires.sound_2, (s.requires.sound, (placed d, is-first d c.if-fresh.true)))).1; overlaps = (simp plain (s.requires.sound_2, (s.requires.sound, (placed d, is-first d c.if-fresh.true)))).2; from_value = (simp plain (s.requires.sound_2, (s.requires.sound, (placed d, is-first d c.if-fresh.true)))).3 }
+    record { sound = simp plain s.requires.sound_2; sound_2 = simp plain s.requires.sound; overlaps = simp plain (placed d); from_value = simp plain (is-first d c.if-fresh.true) }
 
 pub inside_at-requires : goal.inside_at-requires
 inside_at-requires c =
@@ -105,7 +105,7 @@ inside_at-requires c =
     let m = s.ranges.b_distance in
     let k = s.ranges.k in
     let i = label-fits d in
-    record { sound = (simp plain (s.requires.sound_2, (s.requires.sound, placed d))).0; sound_2 = (simp plain (s.requires.sound_2, (s.requires.sound, placed d))).1; overlaps = (simp plain (s.requires.sound_2, (s.requires.sound, placed d))).2 }
+    record { sound = simp plain s.requires.sound_2; sound_2 = simp plain s.requires.sound; overlaps = simp plain (placed d) }
 
 -- what a walk says is what the label of t says
 abbrev Says : Shown → Bool → Type 0
@@ -124,7 +124,8 @@ returns-then-fresh c =
     let m = s.ranges.b_distance in
     let k = s.ranges.k in
     let i = label-fits d in
-    said d _ (simp plain at c.inside_from_first.ensures)
+    let e = simp plain at c.inside_from_first.ensures in
+    said d _ e.whole
 
 pub returns-else-fresh : goal.returns-else-fresh
 returns-else-fresh c =

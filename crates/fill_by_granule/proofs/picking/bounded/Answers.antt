@@ -1,6 +1,5 @@
 -- `fill_by_granule::picking::bounded` meets its contract: a number outside the limits is as good as the one next to them.
 -- Assumes nothing.
-use borrow.Author.Rules.{rules}
 use mathlib.Core.Path.{◌≡◌, refl}
 use native.Mathlib.Omega.{arith}
 use lib.IntN.{ℤ, pos, negsuc}
@@ -30,25 +29,19 @@ pub returns-then-z-lt-LEAST_LABEL : goal.returns-then-z-lt-LEAST_LABEL
 returns-then-z-lt-LEAST_LABEL c =
     let z = c.args.z in
     let f = c.ranges.z in
-    let h : z <ℤ negsuc 999999999 = simp plain at c.if-z-lt-LEAST_LABEL.true in record { low = ((
-      λ j w. low-low (negsuc 1000000000) z j (w.0 ∴ simp ints (omega arith)) (w.0 ∴ h ∴ simp ints (omega arith)),
-      λ j w. high-low (negsuc 1000000000) z j (w.0 ∴ simp ints (omega arith)) (w.0 ∴ h ∴ simp ints (omega arith)),
-    )).0; high = ((
-      λ j w. low-low (negsuc 1000000000) z j (w.0 ∴ simp ints (omega arith)) (w.0 ∴ h ∴ simp ints (omega arith)),
-      λ j w. high-low (negsuc 1000000000) z j (w.0 ∴ simp ints (omega arith)) (w.0 ∴ h ∴ simp ints (omega arith)),
-    )).1 }
+    let h : z <ℤ negsuc 999999999 = simp plain at c.if-z-lt-LEAST_LABEL.true in record {
+      low = λ j w. low-low (negsuc 1000000000) z j (w.0 ∴ simp ints (omega arith)) (w.0 ∴ h ∴ simp ints (omega arith));
+      high = λ j w. high-low (negsuc 1000000000) z j (w.0 ∴ simp ints (omega arith)) (w.0 ∴ h ∴ simp ints (omega arith));
+    }
 
 pub returns-then-z-gt-GREATEST_LABEL : goal.returns-then-z-gt-GREATEST_LABEL
 returns-then-z-gt-GREATEST_LABEL c =
     let z = c.args.z in
     let f = c.ranges.z in
-    let h : pos 1000000000 <ℤ z = simp plain at c.if-z-gt-GREATEST_LABEL.true in record { low = ((
-      λ j w. low-high (pos 1000000001) z j (w.1 ∴ simp ints (omega arith)) (w.1 ∴ h ∴ simp ints (omega arith)),
-      λ j w. high-high (pos 1000000001) z j (w.1 ∴ simp ints (omega arith)) (w.1 ∴ h ∴ simp ints (omega arith)),
-    )).0; high = ((
-      λ j w. low-high (pos 1000000001) z j (w.1 ∴ simp ints (omega arith)) (w.1 ∴ h ∴ simp ints (omega arith)),
-      λ j w. high-high (pos 1000000001) z j (w.1 ∴ simp ints (omega arith)) (w.1 ∴ h ∴ simp ints (omega arith)),
-    )).1 }
+    let h : pos 1000000000 <ℤ z = simp plain at c.if-z-gt-GREATEST_LABEL.true in record {
+      low = λ j w. low-high (pos 1000000001) z j (w.1 ∴ simp ints (omega arith)) (w.1 ∴ h ∴ simp ints (omega arith));
+      high = λ j w. high-high (pos 1000000001) z j (w.1 ∴ simp ints (omega arith)) (w.1 ∴ h ∴ simp ints (omega arith));
+    }
 
 -- within the limits it fits a cell
 small : (c : Else-z-gt-GREATEST_LABEL) → SFits w32 c.args.z

@@ -1,6 +1,6 @@
 -- `fill_by_granule::picking::fill_chosen` meets its contract. The loop's invariant: the cells of the instants before t are written, and the labels counted.
 -- Assumes nothing.
-use mathlib.Core.Path.{◌≡◌, sym, ◌∙◌, ap, ap₂, subst}
+use mathlib.Core.Path.{◌≡◌, sym, ◌∙◌, ap, ap₂}
 use mathlib.Core.Logic.{⊎_elim}
 use mathlib.Core.Bool.{Bool, true, false, cond, ◌&&◌}
 use mathlib.Core.List.{List}
@@ -9,11 +9,11 @@ use native.Mathlib.Omega.{arith}
 use lib.IntN.{ℤ, pos, ◌+ℤ◌}
 use lib.Signed.{le_z}
 use lib.ListN.{length, set}
+use mir.Facts.{to_z-of_z}
 use mir.Syntax.{w32}
-use mir.ValLaws.{to_z_pos}
 use mir.Val.{SFits, to_z, of_z}
 use Rattle.integers.proofs.Linear.{ints, ◌∴◌}
-use Rattle.integers.proofs.Machine.{plain, Bits, bits-read}
+use Rattle.integers.proofs.Machine.{plain}
 use Rattle.calendar.specs.Limits.{pool_limit, between}
 use Rattle.calendar.specs.Lists.{only}
 use Rattle.calendar.specs.Compute.{cell_of}
@@ -24,10 +24,10 @@ use Rattle.fill_by_granule.proofs.picking.fill_chosen.Goals as goal
 use Rattle.fill_by_granule.proofs.picking.fill_chosen.Goals.{At-loop-t, In-loop-t, Start}
 
 -- an instant more, which has a label or not, with the label that follows
-module _ (c lo hi : ℤ) (from to at : ℕ) (old new : List ℤ) (label count t : ℕ) (v : Inv c lo hi from to at old new label count t)
+module _ (c lo hi : ℤ) (from to at : ℕ) (old new : List ℤ) (label : ℤ) (count t : ℕ) (v : Inv c lo hi from to at old new label count t)
     (here : t < to) (fits : SFits w32 (c +ℤ pos t +ℤ pos 1)) (b : Bool) (k : b ≡ between lo hi (c +ℤ pos t)) where
   more : (z : ℤ) (m : ℕ) → z ≡ cell_of (only (c +ℤ pos t) b) → m ≡ cond b (1 + count) count
-      → Inv c lo hi from to at old (set new (at + t) z) (of_z w32 (to_z w32 label +ℤ pos 1)) m (t + 1)
+      → Inv c lo hi from to at old (set new (at + t) z) (to_z w32 (of_z w32 (label +ℤ pos 1))) m (t + 1)
   more z m f g =
       let e : c +ℤ pos t +ℤ pos 1 ≡ c +ℤ pos (t + 1) = simp ints (omega arith) in
       let n = t - from in
@@ -37,10 +37,7 @@ module _ (c lo hi : ℤ) (from to at : ℕ) (old new : List ℤ) (label count t 
       record {
         low = omega (arith, v.low);
         within = omega arith;
-        next = record {
-          fits = subst (SFits w32) e fits;
-          is = ap (of_z w32) (ap (λ (y : ℤ). y +ℤ pos 1) (bits-read v.next) ∙ e);
-        };
+        next = ap (λ (y : ℤ). to_z w32 (of_z w32 (y +ℤ pos 1))) v.next ∙ to_z-of_z fits ∙ e;
         cells =
             ap₂ (λ (l : List ℤ) (y : ℤ). set l (at + t) y) v.cells (f ∙ ap₂ (λ (i : ℕ) (x : Bool). cell_of (only (c +ℤ pos i) x)) q d)
             ∙ ap (λ (i : ℕ). set (chosen_cells c lo hi at from n old) (at + i) (cell_of (only (c +ℤ pos (from + n)) (between lo hi (c +ℤ pos (from + n)))))) q
@@ -72,7 +69,7 @@ loop-t-init c =
     record {
       low = omega arith;
       within = c.requires.in_order;
-      next = record { fits = simp plain (label-fits c); is = ap (λ (y : ℤ). of_z w32 (to_z w32 (of_z w32 a.first) +ℤ y)) (to_z_pos w32 a.from (from-small c).1) };
+      next = let l = (from-small c).1 in let n = label-fits c in simp plain;
       cells = ap (λ (n : ℕ). chosen_cells (to_z w32 (of_z w32 a.first)) (to_z w32 (of_z w32 a.low)) (to_z w32 (of_z w32 a.high)) a.at a.from n a.pool.now) z;
       counted = ap (λ (n : ℕ). chosen_count (to_z w32 (of_z w32 a.first)) (to_z w32 (of_z w32 a.low)) (to_z w32 (of_z w32 a.high)) a.from n) z;
     }
@@ -122,7 +119,7 @@ bounds-pool-at c = let h = here (goal.at.bounds-pool-at c).In-loop-t in omega ar
 pub overflow_add-label-in-loop-t : goal.overflow_add-label-in-loop-t
 overflow_add-label-in-loop-t c =
     let l = (goal.at.overflow_add-label-in-loop-t c).At-loop-t in
-    rw (bits-read l.loop-t.invariant.next) (fits_after (goal.at.At-loop-t l).Start l.loop-t.t c.loop-t-test.true)
+    rw l.loop-t.invariant.next (fits_after (goal.at.At-loop-t l).Start l.loop-t.t c.loop-t-test.true)
 
 pub overflow_add-t : goal.overflow_add-t
 overflow_add-t c = let h = here (goal.at.overflow_add-t c).In-loop-t in omega arith
@@ -139,14 +136,14 @@ loop-t-preserved c =
     let first = to_z w32 (of_z w32 a.first) in
     let lo = to_z w32 (of_z w32 a.low) in
     let hi = to_z w32 (of_z w32 a.high) in
-    let r = bits-read l.loop-t.invariant.next in
-    let go = more first lo hi a.from a.to a.at a.pool.now l.loop-t.pool l.loop-t.label-bits l.loop-t.count t
+    let r = l.loop-t.invariant.next in
+    let go = more first lo hi a.from a.to a.at a.pool.now l.loop-t.pool (to_z w32 l.loop-t.label-bits) l.loop-t.count t
     l.loop-t.invariant i.loop-t-test.true (fits_after (goal.at.At-loop-t l).Start t i.loop-t-test.true) in
     ⊎_elim
-    (λ w. go true (sym (ap₂ ◌&&◌ (ap (le_z lo) (sym r) ∙ w.0.taken) (ap (λ (z : ℤ). le_z z hi) (sym r) ∙ w.1.taken))) _ _ (ap (to_z w32) w.3 ∙ r) (omega (arith, w.2)))
+    (λ w. go true (sym (ap₂ ◌&&◌ (ap (le_z lo) (sym r) ∙ w.if-low-label.true) (ap (λ (z : ℤ). le_z z hi) (sym r) ∙ w.if-label-high.true))) _ _ (w.cell-is ∙ r) (omega (arith, w.count-is)))
     (⊎_elim
-    (λ w. go false (sym (ap₂ ◌&&◌ (ap (le_z lo) (sym r) ∙ w.0.taken) (ap (λ (z : ℤ). le_z z hi) (sym r) ∙ w.1.left))) _ _ (ap (to_z w32) w.3) w.2)
-    (λ w. go false (sym (ap (λ (b : Bool). b && le_z (first +ℤ pos t) hi) (ap (le_z lo) (sym r) ∙ w.0.left))) _ _ (ap (to_z w32) w.2) w.1))
+    (λ w. go false (sym (ap₂ ◌&&◌ (ap (le_z lo) (sym r) ∙ w.if-low-label.true) (ap (λ (z : ℤ). le_z z hi) (sym r) ∙ w.if-label-high.false))) _ _ w.cell-is w.count-is)
+    (λ w. go false (sym (ap (λ (b : Bool). b && le_z (first +ℤ pos t) hi) (ap (le_z lo) (sym r) ∙ w.if-low-label.false))) _ _ w.cell-is w.count-is))
     c.if-low-label.branch-raw
 
 pub shape_of-pool : goal.shape_of-pool
@@ -161,10 +158,7 @@ returns c =
     let g = s.ranges.low in
     let h = s.ranges.high in
     let e : l.loop-t.t - a.from ≡ a.to - a.from = omega (arith, l.loop-t.invariant.within, c.loop-t-test.false) in
-    let v = simp plain at l.loop-t.invariant in record { cells = ((
-      v.cells ∙ ap (λ (n : ℕ). chosen_cells a.first a.low a.high a.at a.from n a.pool.now) e,
-      v.counted ∙ ap (λ (n : ℕ). chosen_count a.first a.low a.high a.from n) e,
-    )).0; count = ((
-      v.cells ∙ ap (λ (n : ℕ). chosen_cells a.first a.low a.high a.at a.from n a.pool.now) e,
-      v.counted ∙ ap (λ (n : ℕ). chosen_count a.first a.low a.high a.from n) e,
-    )).1 }
+    let v = simp plain at l.loop-t.invariant in record {
+      cells = v.cells ∙ ap (λ (n : ℕ). chosen_cells a.first a.low a.high a.at a.from n a.pool.now) e;
+      count = v.counted ∙ ap (λ (n : ℕ). chosen_count a.first a.low a.high a.from n) e;
+    }

@@ -1,30 +1,16 @@
 -- `fill_by_granule::picking::fill_chosen` meets its contract. The loop's invariant: the cells of the instants before t are written, and the labels counted.
 -- Assumes nothing.
-use mathlib.Core.Path.{◌≡◌, sym, ◌∙◌, ap, ap₂, subst}
-use mathlib.Core.Logic.{⊎_elim}
-use mathlib.Core.Bool.{Bool, true, false, cond, ◌&&◌}
+use mathlib.Core.Path.{◌≡◌}
 use mathlib.Core.List.{List}
-use Prim.Native.Nat.{ℕ, suc, ◌+◌, ◌-◌, ◌≤◌, ◌<◌, ◌^◌}
-use native.Mathlib.Omega.{arith}
+use Prim.Native.Nat.{ℕ, ◌-◌, ◌≤◌}
 use lib.IntN.{ℤ, pos, ◌+ℤ◌}
-use lib.Signed.{le_z}
-use lib.ListN.{length, set}
-use mir.Syntax.{w32}
-use mir.ValLaws.{to_z_pos}
-use mir.Val.{SFits, to_z, of_z}
-use Rattle.integers.proofs.Linear.{ints, ◌∴◌}
-use Rattle.integers.proofs.Machine.{plain, Bits, bits-read}
-use Rattle.calendar.specs.Limits.{pool_limit, between}
-use Rattle.calendar.specs.Lists.{only}
-use Rattle.calendar.specs.Compute.{cell_of}
 use Rattle.fill_by_granule.specs.Picking.{chosen_cells, chosen_count}
-use Rattle.fill_by_granule.proofs.Spreads.{chosen-length, chosen-few}
 use Rattle.fill_by_granule.proofs.picking.fill_chosen.Given as goal
 
-pub record Inv (c lo hi : ℤ) (from to at : ℕ) (old new : List ℤ) (label count t : ℕ) : Type 0 where
+pub record Inv (c lo hi : ℤ) (from to at : ℕ) (old new : List ℤ) (label : ℤ) (count t : ℕ) : Type 0 where
   pub low : from ≤ t
   pub within : t ≤ to
-  pub next : Bits w32 label (c +ℤ pos t)
+  pub next : label ≡ c +ℤ pos t
   pub cells : new ≡ chosen_cells c lo hi at from (t - from) old
   pub counted : count ≡ chosen_count c lo hi from (t - from)
 
@@ -34,4 +20,3 @@ invariant-loop-t l =
 
 abbrev pub decreases-loop-t : goal.decreases-loop-t
 decreases-loop-t l = l.to - l.t
-

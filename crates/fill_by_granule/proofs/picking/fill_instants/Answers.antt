@@ -24,8 +24,8 @@ use Rattle.strides.specs.Changes.{Changes}
 use Rattle.kinds.specs.declared.Kind.TheVariants.{Select}
 use Rattle.kinds.specs.Stands.{row_in}
 use Rattle.fill_shared.proofs.Cells.{lent_is}
-use Rattle.fill_shared.proofs.Filling.{Lent, Filling, row_of, lent_as, lent_of, filling-ends, filling-length, filling-done, b-kept}
-use Rattle.fill_by_granule.proofs.Rounds.{Ground, Round, round-first, at-most, by-pick, pick_is, pick-limits, round-next, in_order}
+use Rattle.fill_shared.proofs.Filling.{Lent, Filling, row_of, lent_of, filling-ends, filling-length, filling-done, b-kept}
+use Rattle.fill_by_granule.proofs.Rounds.{Ground, round-first, at-most, by-pick, pick_is, pick-limits, round-next, in_order}
 use Rattle.fill_by_granule.proofs.OneRow.{one_lent, b-long, stood-ground, stood-first, stood-sound, stood-fills}
 use lib.Signed.{◌≤ℤ◌}
 use Rattle.kinds.specs.declared.Pick.{Pick}
@@ -59,7 +59,7 @@ pub slice_copy_out-first : goal.slice_copy_out-first
 slice_copy_out-first c = a_in c
 
 pub end_of-b_end-requires : goal.end_of-b_end-requires
-end_of-b_end-requires c = let s = (goal.at.end_of-b_end-requires c).Start in record { pos_bound = s.requires.placed.b_period; a_bound = s.requires.placed.b_end }
+end_of-b_end-requires c = let s = (goal.at.end_of-b_end-requires c).Start in record { pos_bound = s.requires.placed.b-period; a_bound = s.requires.placed.b_end }
 
 -- ---- the rows that are lent
 abbrev b-lent : Told → Lent
@@ -76,23 +76,22 @@ module _ (c : Told) where
   s = entry c
 
   pub ground : Ground s.args.by (row_of (one_lent s.args.a.start) s.args.pool.now) (B c) (C s) s.args.period
-  ground = let q = s.requires.serves in stood-ground _ _ _ _ _ _ _ s.requires.fillable s.requires.placed q.0 q.1 _ c.end_of-b_end.ensures (b-is c)
+  ground = stood-ground _ _ _ _ _ _ _ s.requires.fillable s.requires.placed s.requires.serves s.requires.whole _ c.end_of-b_end.ensures (b-is c)
 
   pub first : Filling (Select s.args.by) (one_lent s.args.a.start) (b-lent c) s.args.at s.args.period s.args.pool.now s.args.pool.now false 0
-  first = let q = s.requires.serves in stood-first _ _ _ _ _ _ _ s.requires.fillable s.requires.placed q.0 q.1 _ c.end_of-b_end.ensures (b-is c)
+  first = stood-first _ _ _ _ _ _ _ s.requires.fillable s.requires.placed s.requires.serves s.requires.whole _ c.end_of-b_end.ensures (b-is c)
 
   pub b-sound : sound (B c) ≡ true
-  b-sound = let q = s.requires.serves in stood-sound _ _ _ _ _ _ _ s.requires.fillable s.requires.placed q.0 q.1 _ c.end_of-b_end.ensures (b-is c)
+  b-sound = stood-sound _ _ _ _ _ _ _ s.requires.fillable s.requires.placed s.requires.serves s.requires.whole _ c.end_of-b_end.ensures (b-is c)
 
   -- the period of b is that of the working row
   pub b-period : (s.args.b.period ≡ pos s.args.period) × (s.args.period ≤ pool_limit)
   b-period =
-      let q = s.requires.serves in
-      let l = b-long _ _ _ _ _ _ _ s.requires.fillable s.requires.placed q.0 q.1 _ c.end_of-b_end.ensures (b-is c) in
-      (sym (pos-up s.requires.placed.b_period) ∙ ap pos l, omega (arith, s.requires.placed.room, s.requires.placed.at-most))
+      let l = b-long _ _ _ _ _ _ _ s.requires.fillable s.requires.placed s.requires.serves s.requires.whole _ c.end_of-b_end.ensures (b-is c) in
+      (sym (pos-up s.requires.placed.b-period) ∙ ap pos l, omega (arith, s.requires.placed.room, s.requires.placed.at-most))
 
   pub period-is : to_z w64 (of_z w64 s.args.b.period) ≡ pos s.args.period
-  period-is = to_z-of_z (sfits_of c.struct_told-1.given.1.0.1) ∙ b-period.0
+  period-is = to_z-of_z {w = w64} (sfits_of c.struct_told-1.given.1.0.1) ∙ b-period.0
 
   pub c-within : Within 1000000000 (C s)
   c-within = ground.label
@@ -102,19 +101,19 @@ module _ (c : Told) where
 
 -- ---- before the loop
 pub offset_bounds-pool-b_start : goal.offset_bounds-pool-b_start
-offset_bounds-pool-b_start c = let l = (first c).lends in omega (arith, l.b_start, l.b_end, l.room, l.few)
+offset_bounds-pool-b_start c = let l = (first c).lends in omega (arith, l.b-start, l.b_end, l.room, l.few)
 
 pub slice_bounds-cursor_at-count : goal.slice_bounds-cursor_at-count
 slice_bounds-cursor_at-count c = (first c).lends.b-start
 
 pub slice_bounds-cursor_at-start : goal.slice_bounds-cursor_at-start
-slice_bounds-cursor_at-start c = (first (goal.at.slice_bounds-cursor_at-start c).After-struct_told-1).lends.b-start
+slice_bounds-cursor_at-start c = (first (goal.at.slice_bounds-cursor_at-start c).After-struct_told-2-1).lends.b-start
 
 pub slice_bounds-cursor_at-end : goal.slice_bounds-cursor_at-end
-slice_bounds-cursor_at-end c = (filling-ends _ _ _ _ _ _ _ _ _ (first (goal.at.slice_bounds-cursor_at-end c).After-struct_told-1)).1
+slice_bounds-cursor_at-end c = (filling-ends _ _ _ _ _ _ _ _ _ (first (goal.at.slice_bounds-cursor_at-end c).After-struct_told-2-1)).1
 
 abbrev begun-at : After-cursor_at-arg-1 → Told
-begun-at c = (goal.at.After-cursor_at-arg-1 c).After-struct_told-1
+begun-at c = (goal.at.After-cursor_at-arg-1 c).After-struct_told-2-1
 
 pub overflow_sub-b_period : goal.overflow_sub-b_period
 overflow_sub-b_period c =
@@ -128,19 +127,19 @@ turn-back : (c : After-cursor_at-arg-1) → let s = entry (begun-at c) in
 turn-back c =
     let d = begun-at c in
     let n = (b-period d).1 in
-    read_as (ap (λ (z : ℤ). pos 0 -ℤ z) (period-is d) ∙ simp ints (omega arith)) (n ∴ simp ints (omega arith))
+    read_as {w = w64} (ap (λ (z : ℤ). pos 0 -ℤ z) (period-is d) ∙ simp ints (omega arith)) (n ∴ simp ints (omega arith))
 
 pub cursor_at-begun-requires : goal.cursor_at-begun-requires
-cursor_at-begun-requires c = let n = (b-period (begun-at c)).1 in record { sound = (rw (turn-back c) (b-sound (begun-at c), (n ∴ simp ints (omega arith), n ∴ simp ints (omega arith)))).0; near = (rw (turn-back c) (b-sound (begun-at c), (n ∴ simp ints (omega arith), n ∴ simp ints (omega arith)))).1 }
+cursor_at-begun-requires c = let n = (b-period (begun-at c)).1 in record { sound = b-sound (begun-at c); near = rw (turn-back c) (n ∴ simp ints (omega arith), n ∴ simp ints (omega arith)) }
 
 pub offset_bounds-pool-b_start-2 : goal.offset_bounds-pool-b_start-2
-offset_bounds-pool-b_start-2 c = let l = (first (begun-at (goal.at.offset_bounds-pool-b_start-2 c).After-cursor_at-arg-1)).lends in omega (arith, l.b_start, l.b_end, l.room, l.few)
+offset_bounds-pool-b_start-2 c = let l = (first (begun-at (goal.at.offset_bounds-pool-b_start-2 c).After-cursor_at-arg-1)).lends in omega (arith, l.b-start, l.b_end, l.room, l.few)
 
 pub slice_bounds-next_change-count : goal.slice_bounds-next_change-count
-slice_bounds-next_change-count c = (first (begun-at (goal.at.slice_bounds-next_change-count c).After-cursor_at-arg-1)).lends.b_start
+slice_bounds-next_change-count c = (first (begun-at (goal.at.slice_bounds-next_change-count c).After-cursor_at-arg-1)).lends.b-start
 
 pub slice_bounds-next_change-start : goal.slice_bounds-next_change-start
-slice_bounds-next_change-start c = (first (begun-at (goal.at.slice_bounds-next_change-start c).After-cursor_at-arg-1)).lends.b_start
+slice_bounds-next_change-start c = (first (begun-at (goal.at.slice_bounds-next_change-start c).After-cursor_at-arg-1)).lends.b-start
 
 pub slice_bounds-next_change-end : goal.slice_bounds-next_change-end
 slice_bounds-next_change-end c = (filling-ends _ _ _ _ _ _ _ _ _ (first (begun-at (goal.at.slice_bounds-next_change-end c).After-cursor_at-arg-1))).1
@@ -195,7 +194,7 @@ loop-t-init c =
     let h = begins-at-is (goal.at.loop-t-init c).After-struct_told-3-1 in
     let k = (goal.at.loop-t-init c).After-next_change-before in
     let d = told k in
-    round-first _ _ _ _ _ _ _ (ground d) k.next_change-before.result (change k) _ (read_as h.0 h.1) (first d)
+    round-first _ _ _ _ _ _ _ (ground d) k.next_change-before.result (change k) _ (read_as {w = w64} h.0 h.1) (first d)
 
 -- ---- a granule
 abbrev At-loop : Type 0
@@ -208,19 +207,19 @@ pub offset_bounds-pool-b_start-in-loop-t : goal.offset_bounds-pool-b_start-in-lo
 offset_bounds-pool-b_start-in-loop-t c =
     let l = (goal.at.offset_bounds-pool-b_start-in-loop-t c).At-loop-t in
     let f = l.loop-t.invariant.filling in
-    omega (arith, f.lends.b_start, (filling-ends _ _ _ _ _ _ _ _ _ f).1, filling-length _ _ _ _ _ _ _ _ _ f, f.lends.few)
+    omega (arith, f.lends.b-start, (filling-ends _ _ _ _ _ _ _ _ _ f).1, filling-length _ _ _ _ _ _ _ _ _ f, f.lends.few)
 
 pub slice_bounds-next_change-count-in-loop-t : goal.slice_bounds-next_change-count-in-loop-t
-slice_bounds-next_change-count-in-loop-t c = c.loop-t.invariant.filling.lends.b_start
+slice_bounds-next_change-count-in-loop-t c = c.loop-t.invariant.filling.lends.b-start
 
 pub slice_bounds-next_change-start-in-loop-t : goal.slice_bounds-next_change-start-in-loop-t
-slice_bounds-next_change-start-in-loop-t c = c.loop-t.invariant.filling.lends.b_start
+slice_bounds-next_change-start-in-loop-t c = c.loop-t.invariant.filling.lends.b-start
 
 pub slice_bounds-next_change-end-in-loop-t : goal.slice_bounds-next_change-end-in-loop-t
 slice_bounds-next_change-end-in-loop-t c = (filling-ends _ _ _ _ _ _ _ _ _ c.loop-t.invariant.filling).1
 
 -- b stands as it stood
-b-now : (l : At-loop) → let d = told_of l in row_of (b-lent d) l.loop-t.pool-1 ≡ B d
+b-now : (l : At-loop) → let d = told_of l in row_of (b-lent d) l.loop-t.pool ≡ B d
 b-now l = b-kept _ _ _ _ _ _ _ _ _ l.loop-t.invariant.filling
 
 abbrev here : At-loop → ℤ
@@ -238,15 +237,15 @@ next_change-change-requires c =
     let d = told_of l in
     let i = l.loop-t.invariant in
     let v = v-within l in
-    record { sound = (subst (λ (r : Row). (sound r ≡ true) × Shown r l.loop-t.cursor-1) (sym (b-now l))
-    (b-sound d, (here l, (v.0 ∴ simp ints (omega arith), v.1 ∴ simp ints (omega arith)), i.cursor-is, (ground d).whole (here l)))).0; shown = (subst (λ (r : Row). (sound r ≡ true) × Shown r l.loop-t.cursor-1) (sym (b-now l))
-    (b-sound d, (here l, (v.0 ∴ simp ints (omega arith), v.1 ∴ simp ints (omega arith)), i.cursor-is, (ground d).whole (here l)))).1 }
+    let r = subst (λ (r : Row). (sound r ≡ true) × Shown r l.loop-t.cursor) (sym (b-now l))
+    (b-sound d, (here l, (v.0 ∴ simp ints (omega arith), v.1 ∴ simp ints (omega arith)), i.cursor-is, (ground d).whole (here l))) in
+    record { sound = r.0; shown = r.1 }
 
 abbrev Turned : Type 0
 Turned = After-next_change-change
 
 abbrev at-loop : Turned → At-loop
-at-loop c = (goal.at.After-next_change-change c).After-cursor-1
+at-loop c = (goal.at.After-next_change-change c).At-loop-t
 
 changes : (c : Turned) → let l = at-loop c in Changes (B (told_of l)) (here l) c.next_change-change.result
 changes c =
@@ -254,7 +253,7 @@ changes c =
     subst (λ (r : Row). Changes r (here l) c.next_change-change.result) (b-now l)
     (c.next_change-change.ensures (here l) (l.loop-t.invariant.cursor-is ∙ ap (λ (r : Row). cursor_at r (here l)) (sym (b-now l))))
 
-inside : (c : Turned) → (at-loop c).loop.t < (entry (told_of (at-loop c))).args.period
+inside : (c : Turned) → (at-loop c).loop-t.t < (entry (told_of (at-loop c))).args.period
 inside c = c.loop-t-test.true
 
 near_of : (c : Turned) → let s = entry (told_of (at-loop c)) in (pos 1 ≤ℤ c.next_change-change.result.steps) × (c.next_change-change.result.steps ≤ℤ pos s.args.period) × (s.args.period ≤ pool_limit)
@@ -264,7 +263,7 @@ near_of c =
     ((changes c).on, (changes c).near ∴ l ∴ simp ints (omega arith), (b-period d).1)
 
 steps-read : (c : Turned) → to_z w64 (of_z w64 c.next_change-change.result.steps) ≡ c.next_change-change.result.steps
-steps-read c = let n = near_of c in to_z-of_z (n.0 ∴ n.1 ∴ n.2 ∴ simp ints (omega arith))
+steps-read c = let n = near_of c in to_z-of_z {w = w64} (n.0 ∴ n.1 ∴ n.2 ∴ simp ints (omega arith))
 
 -- where the next granule begins
 abbrev W : Turned → ℤ
@@ -273,7 +272,7 @@ W c = here (at-loop c) +ℤ c.next_change-change.result.steps
 w_fits : (c : Turned) → SFits w64 (W c) × Within 16777216 (W c)
 w_fits c =
     let n = near_of c in
-    let i = (at-loop c).loop.invariant in (
+    let i = (at-loop c).loop-t.invariant in (
       n.0 ∴ n.1 ∴ n.2 ∴ i.low ∴ i.high ∴ simp ints (omega arith),
       (n.0 ∴ n.2 ∴ i.low ∴ simp ints (omega arith), n.1 ∴ n.2 ∴ i.high ∴ simp ints (omega arith)),
     )
@@ -282,7 +281,7 @@ w-sum : (c : Turned) → here (at-loop c) +ℤ to_z w64 (of_z w64 c.next_change-
 w-sum c = ap (λ (z : ℤ). here (at-loop c) +ℤ z) (steps-read c)
 
 w-read : (c : Turned) → to_z w64 (of_z w64 (here (at-loop c) +ℤ to_z w64 (of_z w64 c.next_change-change.result.steps))) ≡ W c
-w-read c = read_as (w-sum c) (w_fits c).0
+w-read c = read_as {w = w64} (w-sum c) (w_fits c).0
 
 abbrev turned : After-struct_told-in-loop-t-1 → Turned
 turned c = (goal.at.After-struct_told-in-loop-t-1 c).After-next_change-change
@@ -312,16 +311,11 @@ taken_of-taken-requires c =
     let t = turned-of q in
     let s = entry (told_of (at-loop t)) in
     let n = near_of t in
-    record { pick_limits = (rw (steps-read t) (
-      subst PickLimits (sym (pick-read q)) (pick-limits s.args.by s.requires.fillable.numbers (picks s).0 (picks s).1 (picks s).2),
-      ((n.0 ∴ simp ints (omega arith), n.1 ∴ n.2 ∴ simp ints (omega arith)), v-within (at-loop t)),
-    )).0; pos_bound = (rw (steps-read t) (
-      subst PickLimits (sym (pick-read q)) (pick-limits s.args.by s.requires.fillable.numbers (picks s).0 (picks s).1 (picks s).2),
-      ((n.0 ∴ simp ints (omega arith), n.1 ∴ n.2 ∴ simp ints (omega arith)), v-within (at-loop t)),
-    )).1; within = (rw (steps-read t) (
-      subst PickLimits (sym (pick-read q)) (pick-limits s.args.by s.requires.fillable.numbers (picks s).0 (picks s).1 (picks s).2),
-      ((n.0 ∴ simp ints (omega arith), n.1 ∴ n.2 ∴ simp ints (omega arith)), v-within (at-loop t)),
-    )).2 }
+    record {
+      pick_limits = subst PickLimits (sym (pick-read q)) (pick-limits s.args.by s.requires.fillable.numbers (picks s).0 (picks s).1 (picks s).2);
+      pos_bound = rw (steps-read t) (n.0 ∴ simp ints (omega arith), n.1 ∴ n.2 ∴ simp ints (omega arith));
+      within = v-within (at-loop t);
+    }
 
 abbrev Taken-at : Type 0
 Taken-at = After-taken_of-taken
@@ -356,18 +350,18 @@ module _ (c : Taken-at) where
   -- the labels that are taken
   taken : (j : ℤ) → Within 1000000000 j →
       let p = (picks z).1 in
-      let n = up (on c).next-change2.result.steps in
-      between c.Taken-of.result.low c.Taken-of.result.high j ≡ between (from_label p (C z) (here l) n) (to_label p (C z) (here l) n) j
+      let n = up (on c).next_change-change.result.steps in
+      between c.taken_of-taken.result.low c.taken_of-taken.result.high j ≡ between (from_label p (C z) (here l) n) (to_label p (C z) (here l) n) j
   taken j w =
-      c.Taken-of.ensures j w
-      ∙ ap₂ (λ (p : Pick) (f : ℤ). let n = up (to_z w64 (of_z w64 (on c).next-change2.result.steps)) in between (from_label p f (here l) n) (to_label p f (here l) n) j)
+      c.taken_of-taken.ensures j w
+      ∙ ap₂ (λ (p : Pick) (f : ℤ). let n = up (to_z w64 (of_z w64 (on c).next_change-change.result.steps)) in between (from_label p f (here l) n) (to_label p f (here l) n) j)
       (pick-read (goal.at.After-taken_of-taken c).After-pick_of) first_read
       ∙ ap (λ (m : ℤ). between (from_label (picks z).1 (C z) (here l) (up m)) (to_label (picks z).1 (C z) (here l) (up m)) j) (steps-read (on c))
 
 -- the cells of the working row are in the pool
-room : (c : Taken-at) → let a = (z c).args in (a.at + To c ≤ length (l c).loop.pool) × (length (l c).loop.pool ≤ pool_limit)
+room : (c : Taken-at) → let a = (z c).args in (a.at + To c ≤ length (l c).loop-t.pool) × (length (l c).loop-t.pool ≤ pool_limit)
 room c =
-    let f = (l c).loop.invariant.filling in
+    let f = (l c).loop-t.invariant.filling in
     let e = filling-length _ _ _ _ _ _ _ _ _ f in
     (omega (arith, bounded c, f.lends.room), omega (arith, f.lends.few))
 
@@ -386,20 +380,20 @@ taken_at c = (goal.at.After-fill_chosen-count c).After-taken_of-taken
 
 -- the labels that are taken, as the machine has them
 abbrev lo : Filled-at → ℤ
-lo c = to_z w32 (of_z w32 (taken_at c).Taken-of.result.low)
+lo c = to_z w32 (of_z w32 (taken_at c).taken_of-taken.result.low)
 
 abbrev hi : Filled-at → ℤ
-hi c = to_z w32 (of_z w32 (taken_at c).Taken-of.result.high)
+hi c = to_z w32 (of_z w32 (taken_at c).taken_of-taken.result.high)
 
-counted : (c : Filled-at) → let k = taken_at c in c.fill_chosen-count.result ≡ chosen_count (C (z k)) (lo c) (hi c) (l k).loop.t (To k - (l k).loop.t)
+counted : (c : Filled-at) → let k = taken_at c in c.fill_chosen-count.result ≡ chosen_count (C (z k)) (lo c) (hi c) (l k).loop-t.t (To k - (l k).loop-t.t)
 counted c = let k = taken_at c in rw (first_read k) at c.fill_chosen-count.ensures.count
 
 pub overflow_add-count : goal.overflow_add-count
 overflow_add-count c =
     let f = (goal.at.overflow_add-count c).After-fill_chosen-count in
     let k = taken_at f in
-    let i = (l k).loop.inv in
-    omega (arith, i.few, ordered k, room k, counted f, chosen-few (C (z k)) (lo f) (hi f) (z k).args.at (l k).loop.t (To k - (l k).loop.t))
+    let i = (l k).loop-t.invariant in
+    omega (arith, i.few, ordered k, room k, counted f, chosen-few (C (z k)) (lo f) (hi f) (z k).args.at (l k).loop-t.t (To k - (l k).loop-t.t))
 
 pub loop-t-smaller : goal.loop-t-smaller
 loop-t-smaller c =
@@ -407,7 +401,7 @@ loop-t-smaller c =
     let t = on k in
     let P = (z k).args.period in
     let n = near_of t in
-    let h : here (l k) ≤ℤ pos (l k).loop.t = at-most _ _ _ _ _ _ _ (ground (told_of (l k))) _ _ _ _ _ (l k).loop.inv (inside t) _ (changes t) (W t) refl (To k) (to_is k) in
+    let h : here (l k) ≤ℤ pos (l k).loop-t.t = at-most _ _ _ _ _ _ _ (ground (told_of (l k))) _ _ _ _ _ (l k).loop-t.invariant (inside t) _ (changes t) (W t) refl (To k) (to_is k) in
     subst (λ (w : ℤ). up (pos (P + P) -ℤ w) < up (pos (P + P) -ℤ here (l k))) (sym (w-read t))
     (up-less (pos (P + P) -ℤ W t) (pos (P + P) -ℤ here (l k)) (n.0 ∴ simp ints (omega arith)) (h ∴ inside t ∴ simp ints (omega arith)))
 
@@ -417,8 +411,8 @@ loop-t-preserved c =
     let k = taken_at f in
     let t = on k in
     let i = l k in
-    let fits_low : SFits w32 k.Taken-of.result.low = sfits_of f.struct_told-in-loop-t-3-1.given.0.1 in
-    let fits-high : SFits w32 k.Taken-of.result.high = sfits_of f.struct_told-in-loop-t-4-1.given.1.0.1 in
+    let fits_low : SFits w32 k.taken_of-taken.result.low = sfits_of f.struct_told-in-loop-t-3-1.given.0.1 in
+    let fits-high : SFits w32 k.taken_of-taken.result.high = sfits_of f.struct_told-in-loop-t-4-1.given.1.0.1 in
     rw (w-read t)
     (round-next _ _ _ _ _ _ (C (z k)) (ground (told_of i)) _ _ _ _ _ i.loop-t.invariant (inside t) t.next_change-change.result (changes t) (W t) refl (To k) (to_is k)
     (picks (z k)).0 (picks (z k)).1 (picks (z k)).2 (lo f) (hi f)
@@ -433,6 +427,5 @@ returns c =
     let l = (goal.at.returns c).At-loop-t in
     let d = told_of l in
     let s = entry d in
-    let q = s.requires.serves in
-    stood-fills _ _ _ _ _ _ _ s.requires.fillable s.requires.placed q.0 q.1 _ d.end_of-b_end.ensures (b-is d) _ _
+    stood-fills _ _ _ _ _ _ _ s.requires.fillable s.requires.placed s.requires.serves s.requires.whole _ d.end_of-b_end.ensures (b-is d) _ _
     (rw c.outcome.ensures (filling-done _ _ _ _ _ _ _ _ _ l.loop-t.invariant.filling c.loop-t-test.false))

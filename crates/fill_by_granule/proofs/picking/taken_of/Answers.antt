@@ -1,6 +1,6 @@
 -- `fill_by_granule::picking::taken_of` meets its contract.
 -- Assumes nothing.
-use borrow.Author.Rules.{rules, sfits_of}
+use borrow.Author.Rules.{sfits_of}
 use mathlib.Core.Path.{◌≡◌, ◌∙◌, ap, ap₂}
 use mathlib.Core.Bool.{◌&&◌}
 use native.Mathlib.Omega.{arith}
@@ -133,4 +133,4 @@ returns c =
     let e : a.first +ℤ a.v +ℤ Z d -ℤ pos 1 ≡ from_label a.pick a.first a.v (up a.n) = ap (λ (w : ℤ). a.first +ℤ a.v +ℤ w -ℤ pos 1) z in
     let o : pos (up a.pick.y) ≡ a.pick.y = pos-up (s.requires.pick_limits.y-low ∴ simp ints (omega arith)) in
     let u : a.first +ℤ a.v +ℤ Z d -ℤ pos 1 +ℤ a.pick.y -ℤ pos 1 ≡ to_label a.pick a.first a.v (up a.n) = z ∴ o ∴ simp ints (omega arith) in
-    λ w n. ap₂ (λ (x z : ℤ). between x z w) (to_z-of_z r) (to_z-of_z t) ∙ ap₂ ◌&&◌ (lo.0 w n ∙ ap (λ (x : ℤ). le_z x w) e) (hi.1 w n ∙ ap (le_z w) u)
+    λ w n. ap₂ (λ (x z : ℤ). between x z w) (to_z-of_z r) (to_z-of_z t) ∙ ap₂ ◌&&◌ (lo.low w n ∙ ap (λ (x : ℤ). le_z x w) e) (hi.high w n ∙ ap (le_z w) u)

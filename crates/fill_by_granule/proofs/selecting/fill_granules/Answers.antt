@@ -2,7 +2,7 @@
 --     Begun        before the loop: its invariant, the rows that are lent, and the cells before the first label
 --     Turning      a turn: what is decided, and what holds behind it
 -- Assumes nothing.
-use borrow.Author.Rules.{sfits_of}
+use borrow.Author.Rules.{rules, sfits_of}
 use mathlib.Core.Path.{◌≡◌, refl, sym, ◌∙◌}
 use mathlib.Core.Bool.{true, false, ◌||◌}
 use mathlib.Core.List.{List}
@@ -22,7 +22,7 @@ use Rattle.kinds.specs.Stands.{row_in}
 use Rattle.fill_shared.specs.declared.Filled.{Filled}
 use Rattle.fill_shared.proofs.Cells.{lent_is}
 use Rattle.fill_shared.specs.Placed.{Fills}
-use Rattle.fill_shared.proofs.Filling.{Lent, Filling, lent_as, lent_of, row_of, first_two, fills_two, filling-length, rows-stood, rows-kept, filling-out, filling-done}
+use Rattle.fill_shared.proofs.Filling.{Lent, Filling, lent_of, row_of, first_two, fills_two, filling-length, rows-stood, rows-kept, filling-out, filling-done}
 use Rattle.fill_stretches.proofs.Stretching.{filling-led}
 use Rattle.fill_by_granule.proofs.Selects.{Selecting, unlabelled, selecting-none, decided-label, selecting-next, granule-on}
 use borrow.Author.Tests.{not-false, not-true}
@@ -44,9 +44,18 @@ use Rattle.fill_shared.proofs.Points.{label_small}
 use Rattle.fill_stretches.specs.Stretch.{Stretched, Follows}
 use Rattle.fill_stretches.proofs.Stages.{cell-fits, room-a}
 use lib.Signed.{◌≤ℤ◌}
-use Rattle.fill_by_granule.proofs.selecting.fill_granules.Invariants.{Base, entry, old}
 use Rattle.fill_by_granule.proofs.selecting.fill_granules.Goals as goal
-use Rattle.fill_by_granule.proofs.selecting.fill_granules.Goals.{After-cursor_on-b_cursor, After-decided-decision, After-end_of-a_end, After-fill_leading-reached, After-fill_stretch-next, After-kept-label, After-label_of-j, After-struct_told-3-1, After-struct_told-4-1, After-unknown-picked, At-loop-reached, Else-not-in_limits, In-loop-reached, Start}
+use Rattle.fill_by_granule.proofs.selecting.fill_granules.Goals.{After-cursor_on-b_cursor, After-decided-decision, After-end_of-a_end, After-fill_leading-reached, After-fill_stretch-next, After-kept-label, After-label_of-j, After-struct_told-4-1, After-unknown-picked, At-loop-reached, Else-not-in_limits, In-loop-reached, Start}
+
+-- ---- the rows that are lent, as they stood before the loop
+abbrev Base : Type 0
+Base = After-struct_told-4-1
+
+abbrev entry : Base → Start
+entry k = (goal.at.After-struct_told-4-1 k).Start
+
+abbrev old : Base → List ℤ
+old k = (entry k).args.pool.now
 
 abbrev by : Base → Selection
 by k = (entry k).args.by
@@ -78,7 +87,7 @@ start k =
     first_two _ _ refl s.args.a s.args.b _ _ _ _ _ k.end_of-a_end.ensures (a-is k) _ k.end_of-b_end.ensures (b-is k) s.requires.fillable s.requires.placed
 
 -- what the loop ensures, over the operands
-as-filled : (k : Base) (new : List ℤ) (r : Filled_own) → let s = entry k in Fills (operation_of (Select (by k)) (a-row k) (b-row k)) s.args.at s.args.period (old k) new r
+as-filled : (k : Base) (new : List ℤ) (r : Filled) → let s = entry k in Fills (operation_of (Select (by k)) (a-row k) (b-row k)) s.args.at s.args.period (old k) new r
     → Fills (operation_of (Select (by k)) (row_in (old k) s.args.a) (row_in (old k) s.args.b)) s.args.at s.args.period (old k) new r
 as-filled k new r h =
     let s = entry k in
@@ -92,10 +101,10 @@ b-sound k = (start k).lends.is-fillable.sounds.1
 
 -- the parts that are lent lie in the pool
 a-part : (k : Base) (new : List ℤ) → length new ≡ length (old k) → ((A k).start ≤ (A k).end) × ((A k).end ≤ length new) × ((A k).end ≤ pool_limit)
-a-part k new e = let l = (start k).lends in (l.a_start, omega (arith, l.a_end, l.room), omega (arith, l.a_end, l.room, l.few))
+a-part k new e = let l = (start k).lends in (l.a-start, omega (arith, l.a-end, l.room), omega (arith, l.a-end, l.room, l.few))
 
 b-part : (k : Base) (new : List ℤ) → length new ≡ length (old k) → ((B k).start ≤ (B k).end) × ((B k).end ≤ length new) × ((B k).end ≤ pool_limit)
-b-part k new e = let l = (start k).lends in (l.b_start, omega (arith, l.b_end, l.room), omega (arith, l.b_end, l.room, l.few))
+b-part k new e = let l = (start k).lends in (l.b-start, omega (arith, l.b_end, l.room), omega (arith, l.b_end, l.room, l.few))
 
 -- ---- up to the first label
 -- the pool then
@@ -138,35 +147,35 @@ abbrev at_of : In → At
 at_of c = (goal.at.In-loop-reached c).At-loop-reached
 
 abbrev base : At → Base
-base l = (goal.at.At-loop-reached l).After-struct_told-3-1
+base l = (goal.at.At-loop-reached l).After-struct_told-4-1
 
 -- what holds then, over any pool in which the rows stood
 abbrev Holds : At → List ℤ → Type 0
 Holds l x =
     let k = base l in
     let s = entry k in
-    Selecting (by k) (A k) (B k) s.args.at s.args.period x l.loop-reached.pool-1 l.loop-reached.reached l.loop-reached.b_cursor l.loop-reached.fresh l.loop-reached.picked-1 l.loop-reached.labelled
+    Selecting (by k) (A k) (B k) s.args.at s.args.period x l.loop-reached.pool l.loop-reached.reached l.loop-reached.b_cursor l.loop-reached.fresh l.loop-reached.picked l.loop-reached.labelled
 
 holds : (l : At) → Holds l (old (base l))
 holds l = l.loop-reached.invariant (old (base l)) (started (goal.at.At-loop-reached l).After-unknown-picked)
 
-same : (l : At) → length l.loop-reached.pool-1 ≡ length (old (base l))
+same : (l : At) → length l.loop-reached.pool ≡ length (old (base l))
 same l = filling-length _ _ _ _ _ _ _ _ _ (holds l).along.stage.filling
 
 -- the instant is before the last one
-inside : (c : In) → (at_of c).loop.reached.t < (entry (base (at_of c))).args.period
+inside : (c : In) → (at_of c).loop-reached.reached.t < (entry (base (at_of c))).args.period
 inside c = c.loop-reached-test.true
 
 -- and so is near
-few : (c : In) → (at_of c).loop.reached.t < pool_limit
+few : (c : In) → (at_of c).loop-reached.reached.t < pool_limit
 few c = let l = (holds (at_of c)).along.stage.filling.lends in omega (arith, inside c, l.room, l.few)
 
 module _ (l : At) (x : List ℤ) (h : Holds l x) where
   -- what holds of the rows as they stood holds of them as they stand, and back
-  pub kept : (P : Row → Row → Type 0) → let k = base l in P (row_of (A k) x) (row_of (B k) x) → P (row_of (A k) l.loop-reached.pool-1) (row_of (B k) l.loop-reached.pool-1)
+  pub kept : (P : Row → Row → Type 0) → let k = base l in P (row_of (A k) x) (row_of (B k) x) → P (row_of (A k) l.loop-reached.pool) (row_of (B k) l.loop-reached.pool)
   kept P p = rows-kept _ _ _ _ _ _ _ _ _ h.along.stage.filling P p
 
-  pub stood : (P : Row → Row → Type 0) → let k = base l in P (row_of (A k) l.loop-reached.pool-1) (row_of (B k) l.loop-reached.pool-1) → P (row_of (A k) x) (row_of (B k) x)
+  pub stood : (P : Row → Row → Type 0) → let k = base l in P (row_of (A k) l.loop-reached.pool) (row_of (B k) l.loop-reached.pool) → P (row_of (A k) x) (row_of (B k) x)
   stood P p = rows-stood _ _ _ _ _ _ _ _ _ h.along.stage.filling P p
 
   pub rows-sound : let k = base l in (sound (row_of (A k) x) ≡ true) × (sound (row_of (B k) x) ≡ true)
@@ -203,8 +212,8 @@ label-fits c =
 -- what is asked of the rows x and y: t is the instant and j the label
 abbrev Asks : (l : At) → ℤ → ℤ → Row → Row → Type 0
 Asks l t j x y =
-    (sound x ≡ true) × ((sound y ≡ true) × (Picking (by (base l)) × (Remembers (by (base l)) x y l.loop-reached.picked-1
-    × (Within (2 ^ 49) t × ((meant x t ≡ some j) × ((l.loop-reached.reached.cursor ≡ cursor_at x t) × ((l.loop-reached.b_cursor ≡ cursor_at y t) × (l.loop-reached.fresh ≡ true → t ≡ first (granule x j)))))))))
+    (sound x ≡ true) × (sound y ≡ true) × Picking (by (base l)) × Remembers (by (base l)) x y l.loop-reached.picked
+    × Within (2 ^ 49) t × (meant x t ≡ some j) × (l.loop-reached.reached.cursor ≡ cursor_at x t) × (l.loop-reached.b_cursor ≡ cursor_at y t) × (l.loop-reached.fresh ≡ true → t ≡ first (granule x j))
 
 abbrev Decided : Type 0
 Decided = After-decided-decision
@@ -230,10 +239,10 @@ at_label c = loop-at (shown (decided-of c))
 abbrev given-label : Labelled → Option ℤ
 given-label c = found c.kept-label.result
 
-given_is : (c : Labelled) → given-label c ≡ only (label (shown (decided-of c))) (equal (decided-of c).decided.result.holds (pos 1))
+given_is : (c : Labelled) → given-label c ≡ only (label (shown (decided-of c))) (equal (decided-of c).decided-decision.result.holds (pos 1))
 given_is c =
     let j = label-fits (shown (decided-of c)) in
-    let h : SFits w64 (decided-of c).decided.result.holds = sfits_of c.struct_told-in-loop-reached-1.given.0.1 in
+    let h : SFits w64 (decided-of c).decided-decision.result.holds = search rules in
     simp plain at c.kept-label.ensures
 
 given-result : (c : Labelled) → let l = at_label c in let k = base l in given-label c ≡ result (operation_of (Select (by k)) (a-row k) (b-row k)) (pos l.loop-reached.reached.t)
@@ -266,16 +275,16 @@ cell-is c =
     to_z-of_z (rw (sym e) at (cell-fits (given-label (labelled-of c)) r)) ∙ e
 
 stretched : (c : Filled_own) (x : List ℤ) → Holds (at-filled c) x → let l = at-filled c in let k = base l in
-    Stretched (cell_of (given-label (labelled-of c))) (label (shown (decided-of (labelled-of c)))) (row_of (A k) x) (entry k).args.at (entry k).args.period l.loop-reached.pool-1 l.loop-reached.reached c.fill_stretch-next.result (filled-pool c)
+    Stretched (cell_of (given-label (labelled-of c))) (label (shown (decided-of (labelled-of c)))) (row_of (A k) x) (entry k).args.at (entry k).args.period l.loop-reached.pool l.loop-reached.reached c.fill_stretch-next.result (filled-pool c)
 stretched c x h =
     let l = at-filled c in
     let k = base l in
-    stood l x h (λ y z. Stretched (cell_of (given-label (labelled-of c))) (label (shown (decided-of (labelled-of c)))) y (entry k).args.at (entry k).args.period l.loop-reached.pool-1 l.loop-reached.reached c.fill_stretch-next.result (filled-pool c))
+    stood l x h (λ y z. Stretched (cell_of (given-label (labelled-of c))) (label (shown (decided-of (labelled-of c)))) y (entry k).args.at (entry k).args.period l.loop-reached.pool l.loop-reached.reached c.fill_stretch-next.result (filled-pool c))
     (rw (cell-is c, to_z-of_z (label-fits (shown (decided-of (labelled-of c))))) at c.fill_stretch-next.ensures)
 
 -- what holds behind them, with the next cursor in b
 filled : (c : Filled_own) (x : List ℤ) → Holds (at-filled c) x → (next : Cursor) → let l = at-filled c in let k = base l in next ≡ cursor_at (row_of (B k) x) (pos c.fill_stretch-next.result.t)
-    → Selecting (by k) (A k) (B k) (entry k).args.at (entry k).args.period x (filled-pool c) c.fill_stretch-next.result next true (decided-of (labelled-of c)).decided-decision.result.picked-1 (is_some (given-label (labelled-of c)) || l.loop-reached.labelled)
+    → Selecting (by k) (A k) (B k) (entry k).args.at (entry k).args.period x (filled-pool c) c.fill_stretch-next.result next true (decided-of (labelled-of c)).decided-decision.result.picked (is_some (given-label (labelled-of c)) || l.loop-reached.labelled)
 filled c x h next e =
     let l = at-filled c in
     let k = base l in
@@ -284,7 +293,7 @@ filled c x h next e =
     selecting-next (by k) (A k) (B k) _ _ x _ _ _ _ _ _ h (inside (in-of (shown d))) (label (shown d)) (label_is (shown d) x h) d.decided-decision.result (decides d x h)
     (valid (A k).period (A k).distance (row_of (A k) x).cells (rows-sound l x h).0) _ _ (given-label y) (given_is y) (in-range (goal.at.After-fill_stretch-next c).Else-not-in_limits) (stretched c x h) next e
 
-goes_on : (c : Filled_own) → (at-filled c).loop.reached.t < c.fill_stretch-next.result.t
+goes_on : (c : Filled_own) → (at-filled c).loop-reached.reached.t < c.fill_stretch-next.result.t
 goes_on c =
     let l = at-filled c in
     let k = base l in
@@ -295,10 +304,10 @@ goes_on c =
 
 -- ---- the rows that are lent
 pub end_of-a_end-requires : goal.end_of-a_end-requires
-end_of-a_end-requires c = record { pos_bound = c.requires.placed.a_period; a_bound = c.requires.placed.a_end }
+end_of-a_end-requires c = record { pos_bound = c.requires.placed.a-period; a_bound = c.requires.placed.a-end }
 
 pub end_of-b_end-requires : goal.end_of-b_end-requires
-end_of-b_end-requires c = let s = (goal.at.end_of-b_end-requires c).Start in record { pos_bound = s.requires.placed.b_period; a_bound = s.requires.placed.b_end }
+end_of-b_end-requires c = let s = (goal.at.end_of-b_end-requires c).Start in record { pos_bound = s.requires.placed.b-period; a_bound = s.requires.placed.b_end }
 
 -- ---- up to the first label
 pub fill_leading-reached-requires : goal.fill_leading-reached-requires
@@ -331,16 +340,16 @@ loop-reached-init c = λ x h. h
 
 -- ---- a granule
 pub offset_bounds-pool-a_start : goal.offset_bounds-pool-a_start
-offset_bounds-pool-a_start c = let l = at_of c in let h = a-part (base l) l.loop-reached.pool-1 (same l) in omega arith
+offset_bounds-pool-a_start c = let l = at_of c in let h = a-part (base l) l.loop-reached.pool (same l) in omega arith
 
 pub slice_bounds-label_of-count : goal.slice_bounds-label_of-count
-slice_bounds-label_of-count c = let l = at_of c in (a-part (base l) l.loop-reached.pool-1 (same l)).0
+slice_bounds-label_of-count c = let l = at_of c in (a-part (base l) l.loop-reached.pool (same l)).0
 
 pub slice_bounds-label_of-start : goal.slice_bounds-label_of-start
-slice_bounds-label_of-start c = let l = at_of (goal.at.slice_bounds-label_of-start c).In-loop-reached in (a-part (base l) l.loop-reached.pool-1 (same l)).0
+slice_bounds-label_of-start c = let l = at_of (goal.at.slice_bounds-label_of-start c).In-loop-reached in (a-part (base l) l.loop-reached.pool (same l)).0
 
 pub slice_bounds-label_of-end : goal.slice_bounds-label_of-end
-slice_bounds-label_of-end c = let l = at_of (goal.at.slice_bounds-label_of-end c).In-loop-reached in (a-part (base l) l.loop-reached.pool-1 (same l)).1
+slice_bounds-label_of-end c = let l = at_of (goal.at.slice_bounds-label_of-end c).In-loop-reached in (a-part (base l) l.loop-reached.pool (same l)).1
 
 pub label_of-j-requires : goal.label_of-j-requires
 label_of-j-requires c =
@@ -349,34 +358,34 @@ label_of-j-requires c =
     let k = base l in
     let h = holds l in
     let n = few i in
-    record { sound = (kept l (old k) h (λ x y. (sound x ≡ true) × Shown_own x l.loop-reached.reached.cursor) (a-sound k, (pos l.loop-reached.reached.t, simp ints (omega arith), h.along.stage.follows.cursor, h.along.stage.stops (inside i)))).0; shown = (kept l (old k) h (λ x y. (sound x ≡ true) × Shown_own x l.loop-reached.reached.cursor) (a-sound k, (pos l.loop-reached.reached.t, simp ints (omega arith), h.along.stage.follows.cursor, h.along.stage.stops (inside i)))).1 }
+    record { sound = (kept l (old k) h (λ x y. (sound x ≡ true) × Shown x l.loop-reached.reached.cursor) (a-sound k, (pos l.loop-reached.reached.t, simp ints (omega arith), h.along.stage.follows.cursor, h.along.stage.stops (inside i)))).0; shown = (kept l (old k) h (λ x y. (sound x ≡ true) × Shown x l.loop-reached.reached.cursor) (a-sound k, (pos l.loop-reached.reached.t, simp ints (omega arith), h.along.stage.follows.cursor, h.along.stage.stops (inside i)))).1 }
 
 pub overflow_cast-reached-in-loop-reached : goal.overflow_cast-reached-in-loop-reached
 overflow_cast-reached-in-loop-reached c = let h = few (in-of (goal.at.overflow_cast-reached-in-loop-reached c).After-label_of-j) in simp ints (omega arith)
 
 pub offset_bounds-pool-a_start-in-loop-reached : goal.offset_bounds-pool-a_start-in-loop-reached
-offset_bounds-pool-a_start-in-loop-reached c = let l = loop-at (goal.at.offset_bounds-pool-a_start-in-loop-reached c).After-label_of-j in let h = a-part (base l) l.loop-reached.pool-1 (same l) in omega arith
+offset_bounds-pool-a_start-in-loop-reached c = let l = loop-at (goal.at.offset_bounds-pool-a_start-in-loop-reached c).After-label_of-j in let h = a-part (base l) l.loop-reached.pool (same l) in omega arith
 
 pub slice_bounds-decided-count : goal.slice_bounds-decided-count
-slice_bounds-decided-count c = let l = loop-at (goal.at.slice_bounds-decided-count c).After-label_of-j in (a-part (base l) l.loop-reached.pool-1 (same l)).0
+slice_bounds-decided-count c = let l = loop-at (goal.at.slice_bounds-decided-count c).After-label_of-j in (a-part (base l) l.loop-reached.pool (same l)).0
 
 pub slice_bounds-decided-start : goal.slice_bounds-decided-start
-slice_bounds-decided-start c = let l = loop-at (goal.at.slice_bounds-decided-start c).After-label_of-j in (a-part (base l) l.loop-reached.pool-1 (same l)).0
+slice_bounds-decided-start c = let l = loop-at (goal.at.slice_bounds-decided-start c).After-label_of-j in (a-part (base l) l.loop-reached.pool (same l)).0
 
 pub slice_bounds-decided-end : goal.slice_bounds-decided-end
-slice_bounds-decided-end c = let l = loop-at (goal.at.slice_bounds-decided-end c).After-label_of-j in (a-part (base l) l.loop-reached.pool-1 (same l)).1
+slice_bounds-decided-end c = let l = loop-at (goal.at.slice_bounds-decided-end c).After-label_of-j in (a-part (base l) l.loop-reached.pool (same l)).1
 
 pub offset_bounds-pool-b_start-in-loop-reached : goal.offset_bounds-pool-b_start-in-loop-reached
-offset_bounds-pool-b_start-in-loop-reached c = let l = loop-at (goal.at.offset_bounds-pool-b_start-in-loop-reached c).After-label_of-j in let h = b-part (base l) l.loop-reached.pool-1 (same l) in omega arith
+offset_bounds-pool-b_start-in-loop-reached c = let l = loop-at (goal.at.offset_bounds-pool-b_start-in-loop-reached c).After-label_of-j in let h = b-part (base l) l.loop-reached.pool (same l) in omega arith
 
 pub slice_bounds-decided-count-in-loop-reached : goal.slice_bounds-decided-count-in-loop-reached
-slice_bounds-decided-count-in-loop-reached c = let l = loop-at (goal.at.slice_bounds-decided-count-in-loop-reached c).After-label_of-j in (b-part (base l) l.loop-reached.pool-1 (same l)).0
+slice_bounds-decided-count-in-loop-reached c = let l = loop-at (goal.at.slice_bounds-decided-count-in-loop-reached c).After-label_of-j in (b-part (base l) l.loop-reached.pool (same l)).0
 
 pub slice_bounds-decided-start-in-loop-reached : goal.slice_bounds-decided-start-in-loop-reached
-slice_bounds-decided-start-in-loop-reached c = let l = loop-at (goal.at.slice_bounds-decided-start-in-loop-reached c).After-label_of-j in (b-part (base l) l.loop-reached.pool-1 (same l)).0
+slice_bounds-decided-start-in-loop-reached c = let l = loop-at (goal.at.slice_bounds-decided-start-in-loop-reached c).After-label_of-j in (b-part (base l) l.loop-reached.pool (same l)).0
 
 pub slice_bounds-decided-end-in-loop-reached : goal.slice_bounds-decided-end-in-loop-reached
-slice_bounds-decided-end-in-loop-reached c = let l = loop-at (goal.at.slice_bounds-decided-end-in-loop-reached c).After-label_of-j in (b-part (base l) l.loop-reached.pool-1 (same l)).1
+slice_bounds-decided-end-in-loop-reached c = let l = loop-at (goal.at.slice_bounds-decided-end-in-loop-reached c).After-label_of-j in (b-part (base l) l.loop-reached.pool (same l)).1
 
 pub decided-decision-requires : goal.decided-decision-requires
 decided-decision-requires c =
@@ -388,16 +397,10 @@ decided-decision-requires c =
     let m : l.loop-reached.reached.t < 2 ^ 63 = omega arith in
     let j = label-fits s in
     let e = label_is s (old k) h in
-    record { sound = (kept l (old k) h (Asks l (to_z w64 (of_z w64 (pos l.loop-reached.reached.t))) (to_z w64 (of_z w64 (label s))))
-    (simp plain (a-sound k, (b-sound k, ((start k).lends.is-fillable.numbers, (h.remembers, (simp ints (omega arith), (e, (h.along.stage.follows.cursor, (h.along.is-cursor, λ f. h.along.begins f (inside (in-of s)) (label s) e)))))))))).0; sound_2 = (kept l (old k) h (Asks l (to_z w64 (of_z w64 (pos l.loop-reached.reached.t))) (to_z w64 (of_z w64 (label s))))
-    (simp plain (a-sound k, (b-sound k, ((start k).lends.is-fillable.numbers, (h.remembers, (simp ints (omega arith), (e, (h.along.stage.follows.cursor, (h.along.is-cursor, λ f. h.along.begins f (inside (in-of s)) (label s) e)))))))))).1; picking = (kept l (old k) h (Asks l (to_z w64 (of_z w64 (pos l.loop-reached.reached.t))) (to_z w64 (of_z w64 (label s))))
-    (simp plain (a-sound k, (b-sound k, ((start k).lends.is-fillable.numbers, (h.remembers, (simp ints (omega arith), (e, (h.along.stage.follows.cursor, (h.along.is-cursor, λ f. h.along.begins f (inside (in-of s)) (label s) e)))))))))).2; remembers = (kept l (old k) h (Asks l (to_z w64 (of_z w64 (pos l.loop-reached.reached.t))) (to_z w64 (of_z w64 (label s))))
-    (simp plain (a-sound k, (b-sound k, ((start k).lends.is-fillable.numbers, (h.remembers, (simp ints (omega arith), (e, (h.along.stage.follows.cursor, (h.along.is-cursor, λ f. h.along.begins f (inside (in-of s)) (label s) e)))))))))).3; within = (kept l (old k) h (Asks l (to_z w64 (of_z w64 (pos l.loop-reached.reached.t))) (to_z w64 (of_z w64 (label s))))
-    (simp plain (a-sound k, (b-sound k, ((start k).lends.is-fillable.numbers, (h.remembers, (simp ints (omega arith), (e, (h.along.stage.follows.cursor, (h.along.is-cursor, λ f. h.along.begins f (inside (in-of s)) (label s) e)))))))))).4; t_value = (kept l (old k) h (Asks l (to_z w64 (of_z w64 (pos l.loop-reached.reached.t))) (to_z w64 (of_z w64 (label s))))
-    (simp plain (a-sound k, (b-sound k, ((start k).lends.is-fillable.numbers, (h.remembers, (simp ints (omega arith), (e, (h.along.stage.follows.cursor, (h.along.is-cursor, λ f. h.along.begins f (inside (in-of s)) (label s) e)))))))))).5; a_value = (kept l (old k) h (Asks l (to_z w64 (of_z w64 (pos l.loop-reached.reached.t))) (to_z w64 (of_z w64 (label s))))
-    (simp plain (a-sound k, (b-sound k, ((start k).lends.is-fillable.numbers, (h.remembers, (simp ints (omega arith), (e, (h.along.stage.follows.cursor, (h.along.is-cursor, λ f. h.along.begins f (inside (in-of s)) (label s) e)))))))))).6; b_value = (kept l (old k) h (Asks l (to_z w64 (of_z w64 (pos l.loop-reached.reached.t))) (to_z w64 (of_z w64 (label s))))
-    (simp plain (a-sound k, (b-sound k, ((start k).lends.is-fillable.numbers, (h.remembers, (simp ints (omega arith), (e, (h.along.stage.follows.cursor, (h.along.is-cursor, λ f. h.along.begins f (inside (in-of s)) (label s) e)))))))))).7; t_value_2 = (kept l (old k) h (Asks l (to_z w64 (of_z w64 (pos l.loop-reached.reached.t))) (to_z w64 (of_z w64 (label s))))
-    (simp plain (a-sound k, (b-sound k, ((start k).lends.is-fillable.numbers, (h.remembers, (simp ints (omega arith), (e, (h.along.stage.follows.cursor, (h.along.is-cursor, λ f. h.along.begins f (inside (in-of s)) (label s) e)))))))))).8 }
+    let T = to_z w64 (of_z w64 (pos l.loop-reached.reached.t)) in
+    let J = to_z w64 (of_z w64 (label s)) in
+    let r : Asks l T J (row_of (A k) l.loop-reached.pool) (row_of (B k) l.loop-reached.pool) = kept l (old k) h (Asks l T J) (simp plain (a-sound k, b-sound k, (start k).lends.is-fillable.numbers, h.remembers, simp ints (omega arith), e, h.along.stage.follows.cursor, h.along.is-cursor, λ f. h.along.begins f (inside (in-of s)) (label s) e)) in
+    record { sound = r.0; sound_2 = r.1; picking = r.2; remembers = r.3; within = r.4; t_value = r.5; a_value = r.6; b_value = r.7; t_value_2 = r.8 }
 
 pub shape_of-pool-then-not-in_limits : goal.shape_of-pool-then-not-in_limits
 shape_of-pool-then-not-in_limits c = same (at_label (goal.at.shape_of-pool-then-not-in_limits c).After-kept-label)
@@ -454,13 +457,10 @@ cursor_on-b_cursor-requires c =
     let g = goes_on f in
     let m : f.fill_stretch-next.result.t - p < 2 ^ 63 = omega arith in
     let h = holds l in
-    record { sound = (rows-kept _ _ _ _ _ _ _ _ _ (filled f (old k) h _ refl).along.stage.filling
-    (λ x y. (sound y ≡ true) × (Standing y l.loop-reached.b_cursor × ((pos 0 ≤ℤ to_z w64 (of_z w64 (pos (f.fill_stretch-next.result.t - p)))) × (to_z w64 (of_z w64 (pos (f.fill_stretch-next.result.t - p))) ≤ℤ pos (2 ^ 32)))))
-    (simp plain (b-sound k, ((pos p, simp ints (omega arith), h.along.is-cursor), (simp ints (omega arith), simp ints (omega arith)))))).0; standing = (rows-kept _ _ _ _ _ _ _ _ _ (filled f (old k) h _ refl).along.stage.filling
-    (λ x y. (sound y ≡ true) × (Standing y l.loop-reached.b_cursor × ((pos 0 ≤ℤ to_z w64 (of_z w64 (pos (f.fill_stretch-next.result.t - p)))) × (to_z w64 (of_z w64 (pos (f.fill_stretch-next.result.t - p))) ≤ℤ pos (2 ^ 32)))))
-    (simp plain (b-sound k, ((pos p, simp ints (omega arith), h.along.is-cursor), (simp ints (omega arith), simp ints (omega arith)))))).1; pos_bound = (rows-kept _ _ _ _ _ _ _ _ _ (filled f (old k) h _ refl).along.stage.filling
-    (λ x y. (sound y ≡ true) × (Standing y l.loop-reached.b_cursor × ((pos 0 ≤ℤ to_z w64 (of_z w64 (pos (f.fill_stretch-next.result.t - p)))) × (to_z w64 (of_z w64 (pos (f.fill_stretch-next.result.t - p))) ≤ℤ pos (2 ^ 32)))))
-    (simp plain (b-sound k, ((pos p, simp ints (omega arith), h.along.is-cursor), (simp ints (omega arith), simp ints (omega arith)))))).2 }
+    let D = to_z w64 (of_z w64 (pos (f.fill_stretch-next.result.t - p))) in
+    let r = rows-kept _ _ _ _ _ _ _ _ _ (filled f (old k) h _ refl).along.stage.filling (λ x y. (sound y ≡ true) × Standing y l.loop-reached.b_cursor × ((pos 0 ≤ℤ D) × (D ≤ℤ pos (2 ^ 32))))
+    (simp plain (b-sound k, (pos p, simp ints (omega arith), h.along.is-cursor), (simp ints (omega arith), simp ints (omega arith)))) in
+    record { sound = r.0; standing = r.1; pos_bound = r.2 }
 
 -- the cursor of the next instant
 next-cursor : (c : After-cursor_on-b_cursor) (x : List ℤ) → let f = (goal.at.After-cursor_on-b_cursor c).After-fill_stretch-next in let l = at-filled f in Holds l x

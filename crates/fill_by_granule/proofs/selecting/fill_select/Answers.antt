@@ -1,6 +1,6 @@
 -- `fill_by_granule::selecting::fill_select` meets its contract: each way does.
 -- Assumes nothing.
-use borrow.Author.Rules.{rules, sfits_of}
+use borrow.Author.Rules.{sfits_of}
 use mathlib.Core.Path.{◌≡◌, refl, sym, ◌∙◌, ap, subst}
 use mathlib.Core.Bool.{true, false}
 use mathlib.Core.List.{List}
@@ -22,7 +22,7 @@ use Rattle.kinds.specs.declared.Operand.{Operand}
 use Rattle.kinds.specs.declared.Kind.TheVariants.{Select}
 use Rattle.kinds.specs.declared.Selection.{Selection}
 use Rattle.kinds.specs.declared.Selection.TheVariants.{Down, Up, Intersecting}
-use Rattle.kinds.specs.Stands.{end, row_in}
+use Rattle.kinds.specs.Stands.{row_in}
 use Rattle.select_granules.specs.Deciding.{is_up}
 use Rattle.granules.proofs.Tests.{true≢false}
 use Rattle.fill_by_granule.proofs.OwnTurn.{Owned, up-owned, own-fillable, own-placed, own-fills}
@@ -44,7 +44,7 @@ start c = (goal.at.Then-b-eq1 c).Start
 one : (c : Then-b-eq1) → (start c).args.b.period ≡ pos 1
 one c = (test-eq w64 _ (pos 1) (sfits_of c.struct_told-1.given.1.0.1) (sfits_lit tt)).0 c.if-b-eq1.true
 
-owned : (c : Then-b-eq1) → let a = (start c).args in Owned (Select a.by) (row_in a.pool-1.now a.a) (row_in a.pool-1.now a.b)
+owned : (c : Then-b-eq1) → let a = (start c).args in Owned (Select a.by) (row_in a.pool.now a.a) (row_in a.pool.now a.b)
 owned c =
     let t = (goal.at.Then-b-eq1 c).Then-is_up in
     let s = start c in
@@ -59,9 +59,10 @@ fill_shift-requires c =
     let s = start d in
     let a = s.args in
     let g = s.requires.fillable in
-    record { fillable = (rw (to_z-of_z (sfits_of c.struct_told-then-b-eq1-1.given.1.0.1))
-    (own-fillable a.a a.b a.pool.now g.sounds (one d) g.at-most, own-placed a.a a.b a.pool.now g.sounds (one d) (Select a.by) a.span a.at a.period s.requires.placed (owned d))).0; placed = (rw (to_z-of_z (sfits_of c.struct_told-then-b-eq1-1.given.1.0.1))
-    (own-fillable a.a a.b a.pool.now g.sounds (one d) g.at-most, own-placed a.a a.b a.pool.now g.sounds (one d) (Select a.by) a.span a.at a.period s.requires.placed (owned d))).1 }
+    record {
+      fillable = own-fillable a.a a.b a.pool.now g.sounds (one d) g.at-most;
+      placed = rw (to_z-of_z {w = w64} {z = a.a.period} (sfits_of c.struct_told-then-b-eq1-1.given.1.0.1)) (own-placed a.a a.b a.pool.now g.sounds (one d) (Select a.by) a.span a.at a.period s.requires.placed (owned d));
+    }
 
 pub shape_of-pool-then-b-eq1 : goal.shape_of-pool-then-b-eq1
 shape_of-pool-then-b-eq1 c = c.fill_shift.ensures.lengths
@@ -112,23 +113,23 @@ abbrev Counted : Type 0
 Counted = Then-labelled_instants-b
 
 abbrev looked : Counted → Then-serves
-looked c = (goal.at.Then-labelled_instants-b c).After-serves
+looked c = (goal.at.Then-labelled_instants-b c).Then-serves
 
 abbrev ended : Counted → After-end_of-b_end
-ended c = (looked c).before.before.before.before.before.before
+ended c = (goal.at.Then-labelled_instants-b c).After-end_of-b_end
 
 one_of : (r : Operand) (period : ℕ) (pool : List ℤ) → SFits w64 r.period → SFits w32 (get_or pool r.start (pos 0))
     → Serves (to_z w64 (of_z w64 r.period)) (to_z w32 (of_z w32 (get_or pool r.start (pos 0)))) period → Serves r.period (get_or pool r.start (pos 0)) period
 one_of r period pool f g e = simp plain at e
 
-serves : (c : Counted) → let a = (ended c).before.args in Serves a.a.period (get_or a.pool-1.now a.a.start (pos 0)) a.period
+serves : (c : Counted) → let a = (ended c).args in Serves a.a.period (get_or a.pool.now a.a.start (pos 0)) a.period
 serves c =
     let t = looked c in
     let r = (goal.at.Then-serves t).After-serves in
-    let a = (ended c).before.args in
-    one_of a.a a.period a.pool-1.now (sfits_of r.struct_told-else-is_up-1.given.1.0.1) (sfits_of r.serves-arg-1.given) (r.serves.ensures t.if-serves.taken)
+    let a = (ended c).args in
+    one_of a.a a.period a.pool.now (sfits_of r.struct_told-else-is_up-1.given.1.0.1) (sfits_of r.serves-arg-1.given) (r.serves.ensures t.if-serves.true)
 
-whole : (c : Counted) → let a = (ended c).before.args in Whole (row_in a.pool-1.now a.b)
+whole : (c : Counted) → let a = (ended c).args in Whole (row_in a.pool.now a.b)
 whole c =
     let e = ended c in
     let s = (goal.at.After-end_of-b_end e).Start in
@@ -141,17 +142,15 @@ whole c =
     all_whole (row_in a.pool.now a.b) (sound-valid (row_in a.pool.now a.b) s.requires.fillable.sounds.1)
     (ap (λ (m : ℕ). length (labels_of (take m (drop a.b.start a.pool.now)))) (sym n) ∙ l)
 
-picks : (c : Counted) → is_up (ended c).before.args.by ≡ false
-picks c =
-    let t = (looked c).before.before.before.before in
-    sym t.before.is_up.ensures ∙ t.if-is_up.left
+picks : (c : Counted) → is_up (ended c).args.by ≡ false
+picks c = sym c.is_up.ensures ∙ c.if-is_up.false
 
 pub fill_instants-requires : goal.fill_instants-requires
 fill_instants-requires c =
     let k = (goal.at.fill_instants-requires c).Then-labelled_instants-b in
-    let s = (ended k).before in
-    let n = s.fits.span in
-    record { fillable = (simp plain (s.requires.fillable, (s.requires.placed, (picks k, (serves k, whole k))))).0; placed = (simp plain (s.requires.fillable, (s.requires.placed, (picks k, (serves k, whole k))))).1; by_value = (simp plain (s.requires.fillable, (s.requires.placed, (picks k, (serves k, whole k))))).2; serves = (simp plain (s.requires.fillable, (s.requires.placed, (picks k, (serves k, whole k))))).3; whole = (simp plain (s.requires.fillable, (s.requires.placed, (picks k, (serves k, whole k))))).4 }
+    let s = (goal.at.fill_instants-requires c).Start in
+    let n = s.ranges.span in
+    record { fillable = s.requires.fillable; placed = simp plain s.requires.placed; by_value = picks k; serves = serves k; whole = whole k }
 
 pub shape_of-pool-then-labelled_instants-b : goal.shape_of-pool-then-labelled_instants-b
 shape_of-pool-then-labelled_instants-b c = c.fill_instants.ensures.lengths
@@ -164,7 +163,7 @@ pub fill_granules-requires : goal.fill_granules-requires
 fill_granules-requires c =
     let s = (goal.at.fill_granules-requires c).Start in
     let n = s.ranges.span in
-    record { fillable = simp plain s.requires.fillable; placed = simp plain s.requires.placed }
+    record { fillable = s.requires.fillable; placed = simp plain s.requires.placed }
 
 pub shape_of-pool : goal.shape_of-pool
 shape_of-pool c = c.fill_granules.ensures.lengths
