@@ -28,18 +28,18 @@ use Rattle.match_shared.proofs.Lent.{lent_row}
 use Rattle.match_shared.proofs.Seen.{seen-matched}
 use Rattle.match_shared.proofs.Claims.{claim-outside}
 use Rattle.match_stretches.specs.Stretch.{Stretched}
-use Rattle.match_by_granule.proofs.Given as goal
+use Rattle.match_by_granule.proofs.Given as Given
 use Rattle.match_by_granule.proofs.Given.{b-stands, few, along-b, instant-fits, instant-near, stride-fits, Stride, stride-asks, stride-gave}
-use Rattle.match_by_granule.proofs.Combines.{Combining, combining-none, granule-on, combining-next}
+use Rattle.match_by_granule.proofs.Combines.{combining-none, granule-on, combining-next}
 use Rattle.match_by_granule.proofs.combining.match_combine.Goals as goal
-use Rattle.match_by_granule.proofs.combining.match_combine.Goals.{After-cells_of-b_cells, After-combined-arg-1, After-combined-label, After-compare_leading-reached, After-compare_stretch-reached, After-cursor_on-a_cursor, After-label_of-arg-1, After-label_of-k, At-loop-reached, In-loop-reached, Start}
+use Rattle.match_by_granule.proofs.combining.match_combine.Goals.{After-cells_of-b_cells, After-combined-label, After-compare_leading-reached, After-compare_stretch-reached, After-cursor_on-a_cursor, After-label_of-k, At-loop-reached, In-loop-reached, Start}
 
 -- ---- the rows that are lent
 pub cells_of-a_cells-requires : goal.cells_of-a_cells-requires
-cells_of-a_cells-requires c = let h = c.requires.claimed in record { pos_bound = h.a_period; a_in_bounds = h.a-end }
+cells_of-a_cells-requires c = let h = c.requires.claimed in record { pos_bound = h.a-period; a_in_bounds = h.a-end }
 
 pub cells_of-b_cells-requires : goal.cells_of-b_cells-requires
-cells_of-b_cells-requires c = let h = c.requires.claimed in record { pos_bound = h.b_period; a_in_bounds = h.b_end }
+cells_of-b_cells-requires c = let h = c.requires.claimed in record { pos_bound = h.b-period; a_in_bounds = h.b_end }
 
 abbrev Lent : Type 0
 Lent = After-cells_of-b_cells
@@ -58,10 +58,10 @@ R k = row_in (entry k).args.pool.now (entry k).args.r
 
 module _ (k : Lent) (P : Row → Row → Type 0) where
   lent : P (A k) (B k) → P (lent_row (entry k).args.a k.cells_of-a_cells.result.now) (lent_row (entry k).args.b k.cells_of-b_cells.result.now)
-  lent = let s = entry k in goal.lent s.requires.fillable.sounds s.requires.claimed k.cells_of-a_cells.ensures k.cells_of-b_cells.ensures P
+  lent = let s = entry k in Given.lent s.requires.fillable.sounds s.requires.claimed k.cells_of-a_cells.ensures k.cells_of-b_cells.ensures P
 
   stood : P (lent_row (entry k).args.a k.cells_of-a_cells.result.now) (lent_row (entry k).args.b k.cells_of-b_cells.result.now) → P (A k) (B k)
-  stood = let s = entry k in goal.stood s.requires.fillable.sounds s.requires.claimed k.cells_of-a_cells.ensures k.cells_of-b_cells.ensures P
+  stood = let s = entry k in Given.stood s.requires.fillable.sounds s.requires.claimed k.cells_of-a_cells.ensures k.cells_of-b_cells.ensures P
 
 -- ---- up to the first label
 pub compare_leading-reached-requires : goal.compare_leading-reached-requires
@@ -76,14 +76,15 @@ overflow_cast-reached c = instant-fits (led-few (goal.at.overflow_cast-reached c
 pub cursor_at-a_cursor-requires : goal.cursor_at-a_cursor-requires
 cursor_at-a_cursor-requires c =
     let f = (goal.at.cursor_at-a_cursor-requires c).After-compare_leading-reached in
-    record { sound = (lent (goal.at.After-compare_leading-reached f).After-cells_of-b_cells (λ x y. (sound x ≡ true) × Near (to_z w64 (of_z w64 (pos f.compare_leading-reached.result.t)))) ((entry (goal.at.After-compare_leading-reached f).After-cells_of-b_cells).pre.0.sounds.0, instant-near (led-few f))).0; near = (lent (goal.at.After-compare_leading-reached f).After-cells_of-b_cells (λ x y. (sound x ≡ true) × Near (to_z w64 (of_z w64 (pos f.compare_leading-reached.result.t)))) ((entry (goal.at.After-compare_leading-reached f).After-cells_of-b_cells).pre.0.sounds.0, instant-near (led-few f))).1 }
+    let x = lent (goal.at.After-compare_leading-reached f).After-cells_of-b_cells (λ x y. (sound x ≡ true) × Near (to_z w64 (of_z w64 (pos f.compare_leading-reached.result.t)))) ((entry (goal.at.After-compare_leading-reached f).After-cells_of-b_cells).requires.fillable.sounds.0, instant-near (led-few f)) in
+    record { sound = x.0; near = x.1 }
 
 pub loop-reached-init : goal.loop-reached-init
 loop-reached-init c =
     let f = (goal.at.loop-reached-init c).After-compare_leading-reached in
     let k = (goal.at.After-compare_leading-reached f).After-cells_of-b_cells in
     let n : f.compare_leading-reached.result.t < 2 ^ 63 = omega (arith, led-few f) in
-    combining-none (A k) (B k) (R k) _ (entry k).requires.1.is-period _ _ f.compare_leading-reached.ensures
+    combining-none (A k) (B k) (R k) _ (entry k).requires.claimed.is-period _ _ f.compare_leading-reached.ensures
     (stood k (λ x y. c.cursor_at-a_cursor.result ≡ cursor_at x (pos f.compare_leading-reached.result.t)) (simp plain at c.cursor_at-a_cursor.ensures))
 
 -- ---- a granule
@@ -100,7 +101,7 @@ at_of i = (goal.at.In-loop-reached i).At-loop-reached
 abbrev base : At → Lent
 base l = (goal.at.At-loop-reached l).After-cells_of-b_cells
 
-near : (i : In) → (at_of i).loop.reached.t ≤ pool_limit
+near : (i : In) → (at_of i).loop-reached.reached.t ≤ pool_limit
 near i = let s = entry (base (at_of i)) in few s.requires.fillable.sounds s.requires.claimed (omega (arith, i.loop-reached-test.true))
 
 pub label_of-k-requires : goal.label_of-k-requires
@@ -109,15 +110,15 @@ label_of-k-requires c =
     let l = at_of i in
     let k = base l in
     let n = near i in
-    record { sound = (lent k (λ x y. (sound y ≡ true) × Shown y l.loop-reached.reached.cursor)
-    ((entry k).pre.0.sounds.1, (pos l.loop-reached.reached.t, simp ints (omega arith), l.loop-reached.invariant.stage.follows.cursor, l.loop-reached.invariant.stage.stops i.loop-reached-test.true))).0; shown = (lent k (λ x y. (sound y ≡ true) × Shown y l.loop-reached.reached.cursor)
-    ((entry k).pre.0.sounds.1, (pos l.loop-reached.reached.t, simp ints (omega arith), l.loop-reached.invariant.stage.follows.cursor, l.loop-reached.invariant.stage.stops i.loop-reached-test.true))).1 }
+    let x = lent k (λ x y. (sound y ≡ true) × Shown y l.loop-reached.reached.cursor)
+    ((entry k).requires.fillable.sounds.1, (pos l.loop-reached.reached.t, simp ints (omega arith), l.loop-reached.invariant.stage.follows.cursor, l.loop-reached.invariant.stage.stops i.loop-reached-test.true)) in
+    record { sound = x.0; shown = x.1 }
 
 abbrev Labelling : Type 0
 Labelling = After-label_of-k
 
 abbrev in-of : Labelling → In
-in-of c = (goal.at.After-label_of-k c).After-label_of-arg-1
+in-of c = (goal.at.After-label_of-k c).In-loop-reached
 
 abbrev loop-at : Labelling → At
 loop-at c = at_of (in-of c)
@@ -132,7 +133,7 @@ label_is c =
     stood (base l) (λ x y. (u : ℤ) → l.loop-reached.reached.cursor ≡ cursor_at y u → meant y u ≡ some (label c)) c.label_of-k.ensures (pos l.loop-reached.reached.t) l.loop-reached.invariant.stage.follows.cursor
 
 label-fits : (c : Labelling) → SFits w64 (label c)
-label-fits c = let s = entry (base (loop-at c)) in goal.label-fits (b-stands s.requires.fillable.sounds s.requires.claimed) (near (in-of c)) (label_is c)
+label-fits c = let s = entry (base (loop-at c)) in Given.label-fits (b-stands s.requires.fillable.sounds s.requires.claimed) (near (in-of c)) (label_is c)
 
 pub overflow_cast-t : goal.overflow_cast-t
 overflow_cast-t c = instant-fits (near (in-of c))
@@ -152,22 +153,17 @@ combined-label-requires c =
     let m : l.loop-reached.reached.t < 2 ^ 63 = omega arith in
     let j = label-fits s in
     let e = label_is s in
-    let v = (entry k).pre.0.sounds in
-    record { sound = (lent k (Asks l (to_z w64 (of_z w64 (pos l.loop-reached.reached.t))) (to_z w64 (of_z w64 (label s))))
-    (simp plain (v.0, (v.1, (simp ints (omega arith), (e, (h.is-cursor, (h.stage.follows.cursor, λ f. h.begins f (in-of s).if1.true (label s) e)))))))).0; sound_2 = (lent k (Asks l (to_z w64 (of_z w64 (pos l.loop-reached.reached.t))) (to_z w64 (of_z w64 (label s))))
-    (simp plain (v.0, (v.1, (simp ints (omega arith), (e, (h.is-cursor, (h.stage.follows.cursor, λ f. h.begins f (in-of s).if1.true (label s) e)))))))).1; within = (lent k (Asks l (to_z w64 (of_z w64 (pos l.loop-reached.reached.t))) (to_z w64 (of_z w64 (label s))))
-    (simp plain (v.0, (v.1, (simp ints (omega arith), (e, (h.is-cursor, (h.stage.follows.cursor, λ f. h.begins f (in-of s).if1.true (label s) e)))))))).2; t_value = (lent k (Asks l (to_z w64 (of_z w64 (pos l.loop-reached.reached.t))) (to_z w64 (of_z w64 (label s))))
-    (simp plain (v.0, (v.1, (simp ints (omega arith), (e, (h.is-cursor, (h.stage.follows.cursor, λ f. h.begins f (in-of s).if1.true (label s) e)))))))).3; a_value = (lent k (Asks l (to_z w64 (of_z w64 (pos l.loop-reached.reached.t))) (to_z w64 (of_z w64 (label s))))
-    (simp plain (v.0, (v.1, (simp ints (omega arith), (e, (h.is-cursor, (h.stage.follows.cursor, λ f. h.begins f (in-of s).if1.true (label s) e)))))))).4; b_value = (lent k (Asks l (to_z w64 (of_z w64 (pos l.loop-reached.reached.t))) (to_z w64 (of_z w64 (label s))))
-    (simp plain (v.0, (v.1, (simp ints (omega arith), (e, (h.is-cursor, (h.stage.follows.cursor, λ f. h.begins f (in-of s).if1.true (label s) e)))))))).5; t_value_2 = (lent k (Asks l (to_z w64 (of_z w64 (pos l.loop-reached.reached.t))) (to_z w64 (of_z w64 (label s))))
-    (simp plain (v.0, (v.1, (simp ints (omega arith), (e, (h.is-cursor, (h.stage.follows.cursor, λ f. h.begins f (in-of s).if1.true (label s) e)))))))).6 }
+    let v = (entry k).requires.fillable.sounds in
+    let x = lent k (Asks l (to_z w64 (of_z w64 (pos l.loop-reached.reached.t))) (to_z w64 (of_z w64 (label s))))
+    (simp plain (v.0, (v.1, (simp ints (omega arith), (e, (h.is-cursor, (h.stage.follows.cursor, λ f. h.begins f (in-of s).loop-reached-test.true (label s) e))))))) in
+    record { sound = x.0; sound_2 = x.1.0; within = x.1.1.0; t_value = x.1.1.1.0; a_value = x.1.1.1.1.0; b_value = x.1.1.1.1.1.0; t_value_2 = x.1.1.1.1.1.1 }
 
 -- the label that its instants are to have
 abbrev Labelled : Type 0
 Labelled = After-combined-label
 
 abbrev shown : Labelled → Labelling
-shown c = (goal.at.After-combined-label c).After-combined-arg-1
+shown c = (goal.at.After-combined-label c).After-label_of-k
 
 abbrev at_label : Labelled → At
 at_label c = loop-at (shown c)
@@ -207,12 +203,12 @@ stretched : (c : Compared) → let l = at-compared c in let k = base l in
     Stretched (given-label (labelled-of c)) (label (shown (labelled-of c))) (B k) (R k) (entry k).args.period l.loop-reached.reached c.compare_stretch-reached.result
 stretched c = rw (to_z-of_z (label-fits (shown (labelled-of c)))) at c.compare_stretch-reached.ensures
 
-goes_on : (c : Compared) → (at-compared c).loop.reached.t < c.compare_stretch-reached.result.t
+goes_on : (c : Compared) → (at-compared c).loop-reached.reached.t < c.compare_stretch-reached.result.t
 goes_on c =
     let l = at-compared c in
     let k = base l in
     let y = shown (labelled-of c) in
-    granule-on (A k) (B k) (R k) _ (entry k).pre.1.is-period _ _ _ _ l.loop-reached.invariant (in-of y).if1.taken (label y) (label_is y) _ _ (stretched c)
+    granule-on (A k) (B k) (R k) _ (entry k).requires.claimed.is-period _ _ _ _ l.loop-reached.invariant (in-of y).loop-reached-test.true (label y) (label_is y) _ _ (stretched c)
 
 compared-few : (c : Compared) → c.compare_stretch-reached.result.t ≤ pool_limit
 compared-few c = let s = entry (base (at-compared c)) in few s.requires.fillable.sounds s.requires.claimed (stretched c).passed.follows.in-room
@@ -230,7 +226,8 @@ cursor_on-a_cursor-requires c =
     let k = base l in
     let g = goes_on f in
     let n = compared-few f in
-    record { sound = (lent k (λ x y. Stride g n l.loop-reached.a_cursor x) (stride-asks g n _ (A k) (entry k).pre.0.sounds.0 l.loop-reached.invariant.is-cursor)).0; standing = (lent k (λ x y. Stride g n l.loop-reached.a_cursor x) (stride-asks g n _ (A k) (entry k).pre.0.sounds.0 l.loop-reached.invariant.is-cursor)).1; pos_bound = (lent k (λ x y. Stride g n l.loop-reached.a_cursor x) (stride-asks g n _ (A k) (entry k).pre.0.sounds.0 l.loop-reached.invariant.is-cursor)).2 }
+    let x = lent k (λ x y. Stride g n l.loop-reached.a_cursor x) (stride-asks g n _ (A k) (entry k).requires.fillable.sounds.0 l.loop-reached.invariant.is-cursor) in
+    record { sound = x.0; standing = x.1.0; pos_bound = x.1.1 }
 
 -- the cursor of the next instant
 next-cursor : (c : After-cursor_on-a_cursor) → let f = (goal.at.After-cursor_on-a_cursor c).After-compare_stretch-reached in c.cursor_on-a_cursor.result ≡ cursor_at (A (base (at-compared f))) (pos f.compare_stretch-reached.result.t)
@@ -252,11 +249,11 @@ loop-reached-preserved c =
     let y = labelled-of f in
     let i : if_label (given-label y) in_range ≡ true = sym f.in_limits.ensures ∙ not-false _ f.if-not-in_limits.false-raw in
     rw c.any-labelled.ensures
-    (combining-next (A k) (B k) (R k) _ (entry k).pre.1.is-period _ _ _ _ l.loop-reached.invariant (in-of (shown y)).loop-reached-test.true (label (shown y)) (label_is (shown y)) _ _ (stretched f)
-    (sound-valid (B k) (entry k).pre.0.sounds.1) (given-result y) i _ (next-cursor (goal.at.loop-reached-preserved c).After-cursor_on-a_cursor))
+    (combining-next (A k) (B k) (R k) _ (entry k).requires.claimed.is-period _ _ _ _ l.loop-reached.invariant (in-of (shown y)).loop-reached-test.true (label (shown y)) (label_is (shown y)) _ _ (stretched f)
+    (sound-valid (B k) (entry k).requires.fillable.sounds.1) (given-result y) i _ (next-cursor (goal.at.loop-reached-preserved c).After-cursor_on-a_cursor))
 
 pub returns : goal.returns
 returns c =
     let l = (goal.at.returns c).At-loop-reached in
     let k = base l in
-    c.outcome.ensures ∙ seen-matched (operation_of Combine (A k) (B k)) (R k) _ _ _ l.loop-reached.invariant.stage.seen (omega (arith, c.loop-reached-test.false, (entry k).pre.1.is-period))
+    c.outcome.ensures ∙ seen-matched (operation_of Combine (A k) (B k)) (R k) _ _ _ l.loop-reached.invariant.stage.seen (omega (arith, c.loop-reached-test.false, (entry k).requires.claimed.is-period))

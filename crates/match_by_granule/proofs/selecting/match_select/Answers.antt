@@ -1,6 +1,6 @@
 -- `match_by_granule::selecting::match_select` meets its contract: each turn of the loop decides a granule of a and compares its instants.
 -- Assumes nothing.
-use borrow.Author.Rules.{sfits_of}
+use borrow.Author.Rules.{rules}
 use borrow.Author.Tests.{not-true, not-false}
 use mathlib.Core.Path.{◌≡◌, sym, ◌∙◌}
 use mathlib.Core.Option.{Option, some}
@@ -35,16 +35,16 @@ use Rattle.match_shared.proofs.Claims.{claim-outside}
 use Rattle.match_stretches.specs.Stretch.{Stretched}
 use Rattle.match_by_granule.proofs.Given as Given
 use Rattle.match_by_granule.proofs.Given.{a-stands, few, along-a, instant-fits, instant-near, stride-fits, Stride, stride-asks, stride-gave}
-use Rattle.match_by_granule.proofs.Selects.{Selecting, selecting-none, decided-label, granule-on, selecting-next}
+use Rattle.match_by_granule.proofs.Selects.{selecting-none, decided-label, granule-on, selecting-next}
 use Rattle.match_by_granule.proofs.selecting.match_select.Goals as goal
-use Rattle.match_by_granule.proofs.selecting.match_select.Goals.{After-cells_of-b_cells, After-compare_leading-reached, After-compare_stretch-reached, After-cursor_on-b_cursor, After-decided-arg-1, After-decided-decision, After-kept-label, After-label_of-arg-1, After-label_of-j, At-loop-reached, In-loop-reached, Start}
+use Rattle.match_by_granule.proofs.selecting.match_select.Goals.{After-cells_of-b_cells, After-compare_leading-reached, After-compare_stretch-reached, After-cursor_on-b_cursor, After-decided-decision, After-kept-label, After-label_of-j, At-loop-reached, In-loop-reached, Start}
 
 -- ---- the rows that are lent
 pub cells_of-a_cells-requires : goal.cells_of-a_cells-requires
-cells_of-a_cells-requires c = let h = c.requires.claimed in record { pos_bound = h.a_period; a_in_bounds = h.a-end }
+cells_of-a_cells-requires c = let h = c.requires.claimed in record { pos_bound = h.a-period; a_in_bounds = h.a-end }
 
 pub cells_of-b_cells-requires : goal.cells_of-b_cells-requires
-cells_of-b_cells-requires c = let h = c.requires.claimed in record { pos_bound = h.b_period; a_in_bounds = h.b_end }
+cells_of-b_cells-requires c = let h = c.requires.claimed in record { pos_bound = h.b-period; a_in_bounds = h.b_end }
 
 abbrev Lent : Type 0
 Lent = After-cells_of-b_cells
@@ -84,14 +84,15 @@ overflow_cast-reached c = instant-fits (led-few (goal.at.overflow_cast-reached c
 pub cursor_at-b_cursor-requires : goal.cursor_at-b_cursor-requires
 cursor_at-b_cursor-requires c =
     let f = (goal.at.cursor_at-b_cursor-requires c).After-compare_leading-reached in
-    record { sound = (lent (goal.at.After-compare_leading-reached f).After-cells_of-b_cells (λ x y. (sound y ≡ true) × Near (to_z w64 (of_z w64 (pos f.compare_leading-reached.result.t)))) ((entry (goal.at.After-compare_leading-reached f).After-cells_of-b_cells).pre.0.sounds.1, instant-near (led-few f))).0; near = (lent (goal.at.After-compare_leading-reached f).After-cells_of-b_cells (λ x y. (sound y ≡ true) × Near (to_z w64 (of_z w64 (pos f.compare_leading-reached.result.t)))) ((entry (goal.at.After-compare_leading-reached f).After-cells_of-b_cells).pre.0.sounds.1, instant-near (led-few f))).1 }
+    let x = lent (goal.at.After-compare_leading-reached f).After-cells_of-b_cells (λ x y. (sound y ≡ true) × Near (to_z w64 (of_z w64 (pos f.compare_leading-reached.result.t)))) ((entry (goal.at.After-compare_leading-reached f).After-cells_of-b_cells).requires.fillable.sounds.1, instant-near (led-few f)) in
+    record { sound = x.0; near = x.1 }
 
 pub loop-reached-init : goal.loop-reached-init
 loop-reached-init c =
     let f = (goal.at.loop-reached-init c).After-compare_leading-reached in
     let k = (goal.at.After-compare_leading-reached f).After-cells_of-b_cells in
     let n : f.compare_leading-reached.result.t < 2 ^ 63 = omega (arith, led-few f) in
-    selecting-none (by k) (A k) (B k) (R k) _ (entry k).requires.1.is-period _ _ _ f.compare_leading-reached.ensures
+    selecting-none (by k) (A k) (B k) (R k) _ (entry k).requires.claimed.is-period _ _ _ f.compare_leading-reached.ensures
     (stood k (λ x y. c.cursor_at-b_cursor.result ≡ cursor_at y (pos f.compare_leading-reached.result.t)) (simp plain at c.cursor_at-b_cursor.ensures)) c.unknown-picked.ensures
 
 -- ---- a granule
@@ -108,7 +109,7 @@ at_of i = (goal.at.In-loop-reached i).At-loop-reached
 abbrev base : At → Lent
 base l = (goal.at.At-loop-reached l).After-cells_of-b_cells
 
-near : (i : In) → (at_of i).loop.reached.t ≤ pool_limit
+near : (i : In) → (at_of i).loop-reached.reached.t ≤ pool_limit
 near i = let s = entry (base (at_of i)) in few s.requires.fillable.sounds s.requires.claimed (omega (arith, i.loop-reached-test.true))
 
 pub label_of-j-requires : goal.label_of-j-requires
@@ -118,15 +119,15 @@ label_of-j-requires c =
     let k = base l in
     let n = near i in
     let h = l.loop-reached.invariant.along.stage in
-    record { sound = (lent k (λ x y. (sound x ≡ true) × Shown x l.loop-reached.reached.cursor)
-    ((entry k).pre.0.sounds.0, (pos l.loop-reached.reached.t, simp ints (omega arith), h.follows.cursor, h.stops i.loop-reached-test.true))).0; shown = (lent k (λ x y. (sound x ≡ true) × Shown x l.loop-reached.reached.cursor)
-    ((entry k).pre.0.sounds.0, (pos l.loop-reached.reached.t, simp ints (omega arith), h.follows.cursor, h.stops i.loop-reached-test.true))).1 }
+    let x = lent k (λ x y. (sound x ≡ true) × Shown x l.loop-reached.reached.cursor)
+    ((entry k).requires.fillable.sounds.0, (pos l.loop-reached.reached.t, simp ints (omega arith), h.follows.cursor, h.stops i.loop-reached-test.true)) in
+    record { sound = x.0; shown = x.1 }
 
 abbrev Labelling : Type 0
 Labelling = After-label_of-j
 
 abbrev in-of : Labelling → In
-in-of c = (goal.at.After-label_of-j c).After-label_of-arg-1
+in-of c = (goal.at.After-label_of-j c).In-loop-reached
 
 abbrev loop-at : Labelling → At
 loop-at c = at_of (in-of c)
@@ -149,7 +150,7 @@ overflow_cast-t c = instant-fits (near (in-of c))
 -- what is asked of the rows x and y: t is the instant and j the label
 abbrev Asks : At → ℤ → ℤ → Row → Row → Type 0
 Asks l t j x y =
-    (sound x ≡ true) × ((sound y ≡ true) × (Picking (by (base l)) × (Remembers (by (base l)) x y l.loop-reached.picked-1
+    (sound x ≡ true) × ((sound y ≡ true) × (Picking (by (base l)) × (Remembers (by (base l)) x y l.loop-reached.picked
     × (Within (2 ^ 49) t × ((meant x t ≡ some j) × ((l.loop-reached.reached.cursor ≡ cursor_at x t) × ((l.loop-reached.b_cursor ≡ cursor_at y t) × (l.loop-reached.fresh ≡ true → t ≡ first (granule x j)))))))))
 
 pub decided-decision-requires : goal.decided-decision-requires
@@ -163,23 +164,16 @@ decided-decision-requires c =
     let m : l.loop-reached.reached.t < 2 ^ 63 = omega arith in
     let j = label-fits s in
     let e = label_is s in
-    let v = (entry k).pre.0 in
-    record { sound = (lent k (Asks l (to_z w64 (of_z w64 (pos l.loop-reached.reached.t))) (to_z w64 (of_z w64 (label s))))
-    (simp plain (v.sounds.0, (v.sounds.1, (v.numbers, (h.remembers, (simp ints (omega arith), (e, (g.stage.follows.cursor, (g.is-cursor, λ f. g.begins f (in-of s).if1.true (label s) e)))))))))).0; sound_2 = (lent k (Asks l (to_z w64 (of_z w64 (pos l.loop-reached.reached.t))) (to_z w64 (of_z w64 (label s))))
-    (simp plain (v.sounds.0, (v.sounds.1, (v.numbers, (h.remembers, (simp ints (omega arith), (e, (g.stage.follows.cursor, (g.is-cursor, λ f. g.begins f (in-of s).if1.true (label s) e)))))))))).1; picking = (lent k (Asks l (to_z w64 (of_z w64 (pos l.loop-reached.reached.t))) (to_z w64 (of_z w64 (label s))))
-    (simp plain (v.sounds.0, (v.sounds.1, (v.numbers, (h.remembers, (simp ints (omega arith), (e, (g.stage.follows.cursor, (g.is-cursor, λ f. g.begins f (in-of s).if1.true (label s) e)))))))))).2; remembers = (lent k (Asks l (to_z w64 (of_z w64 (pos l.loop-reached.reached.t))) (to_z w64 (of_z w64 (label s))))
-    (simp plain (v.sounds.0, (v.sounds.1, (v.numbers, (h.remembers, (simp ints (omega arith), (e, (g.stage.follows.cursor, (g.is-cursor, λ f. g.begins f (in-of s).if1.true (label s) e)))))))))).3; within = (lent k (Asks l (to_z w64 (of_z w64 (pos l.loop-reached.reached.t))) (to_z w64 (of_z w64 (label s))))
-    (simp plain (v.sounds.0, (v.sounds.1, (v.numbers, (h.remembers, (simp ints (omega arith), (e, (g.stage.follows.cursor, (g.is-cursor, λ f. g.begins f (in-of s).if1.true (label s) e)))))))))).4; t_value = (lent k (Asks l (to_z w64 (of_z w64 (pos l.loop-reached.reached.t))) (to_z w64 (of_z w64 (label s))))
-    (simp plain (v.sounds.0, (v.sounds.1, (v.numbers, (h.remembers, (simp ints (omega arith), (e, (g.stage.follows.cursor, (g.is-cursor, λ f. g.begins f (in-of s).if1.true (label s) e)))))))))).5; a_value = (lent k (Asks l (to_z w64 (of_z w64 (pos l.loop-reached.reached.t))) (to_z w64 (of_z w64 (label s))))
-    (simp plain (v.sounds.0, (v.sounds.1, (v.numbers, (h.remembers, (simp ints (omega arith), (e, (g.stage.follows.cursor, (g.is-cursor, λ f. g.begins f (in-of s).if1.true (label s) e)))))))))).6; b_value = (lent k (Asks l (to_z w64 (of_z w64 (pos l.loop-reached.reached.t))) (to_z w64 (of_z w64 (label s))))
-    (simp plain (v.sounds.0, (v.sounds.1, (v.numbers, (h.remembers, (simp ints (omega arith), (e, (g.stage.follows.cursor, (g.is-cursor, λ f. g.begins f (in-of s).if1.true (label s) e)))))))))).7; t_value_2 = (lent k (Asks l (to_z w64 (of_z w64 (pos l.loop-reached.reached.t))) (to_z w64 (of_z w64 (label s))))
-    (simp plain (v.sounds.0, (v.sounds.1, (v.numbers, (h.remembers, (simp ints (omega arith), (e, (g.stage.follows.cursor, (g.is-cursor, λ f. g.begins f (in-of s).if1.true (label s) e)))))))))).8 }
+    let v = (entry k).requires.fillable in
+    let x = lent k (Asks l (to_z w64 (of_z w64 (pos l.loop-reached.reached.t))) (to_z w64 (of_z w64 (label s))))
+    (simp plain (v.sounds.0, (v.sounds.1, (v.numbers, (h.remembers, (simp ints (omega arith), (e, (g.stage.follows.cursor, (g.is-cursor, λ f. g.begins f (in-of s).loop-reached-test.true (label s) e))))))))) in
+    record { sound = x.0; sound_2 = x.1.0; picking = x.1.1.0; remembers = x.1.1.1.0; within = x.1.1.1.1.0; t_value = x.1.1.1.1.1.0; a_value = x.1.1.1.1.1.1.0; b_value = x.1.1.1.1.1.1.1.0; t_value_2 = x.1.1.1.1.1.1.1.1 }
 
 abbrev Decided : Type 0
 Decided = After-decided-decision
 
 abbrev shown : Decided → Labelling
-shown c = (goal.at.After-decided-decision c).After-decided-arg-1
+shown c = (goal.at.After-decided-decision c).After-label_of-j
 
 decides : (c : Decided) → let k = base (loop-at (shown c)) in Decides (by k) (A k) (B k) (label (shown c)) c.decided-decision.result
 decides c =
@@ -199,17 +193,17 @@ at_label c = loop-at (shown (decided-of c))
 abbrev given-label : Labelled → Option ℤ
 given-label c = found c.kept-label.result
 
-given_is : (c : Labelled) → given-label c ≡ only (label (shown (decided-of c))) (equal (decided-of c).decided.result.holds (pos 1))
+given_is : (c : Labelled) → given-label c ≡ only (label (shown (decided-of c))) (equal (decided-of c).decided-decision.result.holds (pos 1))
 given_is c =
     let j = label-fits (shown (decided-of c)) in
-    let h : SFits w64 (decided-of c).decided.result.holds = sfits_of c.struct_told-in-loop-reached-7-1.given.0.1 in
+    let h : SFits w64 (decided-of c).decided-decision.result.holds = search rules in
     simp plain at c.kept-label.ensures
 
 given-result : (c : Labelled) → let l = at_label c in let k = base l in given-label c ≡ result (operation_of (Select (by k)) (A k) (B k)) (pos l.loop-reached.reached.t)
 given-result c =
     let d = decided-of c in
     let k = base (at_label c) in
-    given_is c ∙ decided-label (by k) (A k) (B k) (R k) _ (entry k).pre.1.is-period (label (shown d)) d.decided-decision.result (decides d) _ (label_is (shown d))
+    given_is c ∙ decided-label (by k) (A k) (B k) (R k) _ (entry k).requires.claimed.is-period (label (shown d)) d.decided-decision.result (decides d) _ (label_is (shown d))
 
 pub returns-then-not-in_limits : goal.returns-then-not-in_limits
 returns-then-not-in_limits c =
@@ -236,13 +230,13 @@ stretched : (c : Compared) → let l = at-compared c in let k = base l in
     Stretched (given-label (labelled-of c)) (label (shown (decided-of (labelled-of c)))) (A k) (R k) (entry k).args.period l.loop-reached.reached c.compare_stretch-reached.result
 stretched c = rw (to_z-of_z (label-fits (shown (decided-of (labelled-of c))))) at c.compare_stretch-reached.ensures
 
-goes_on : (c : Compared) → (at-compared c).loop.reached.t < c.compare_stretch-reached.result.t
+goes_on : (c : Compared) → (at-compared c).loop-reached.reached.t < c.compare_stretch-reached.result.t
 goes_on c =
     let l = at-compared c in
     let k = base l in
     let d = decided-of (labelled-of c) in
     let y = shown d in
-    granule-on (by k) (A k) (B k) (R k) _ (entry k).pre.1.is-period (label y) d.decided-decision.result (decides d) _ _ _ _ _ l.loop-reached.invariant (in-of y).if1.taken (label_is y) _ _ (stretched c)
+    granule-on (by k) (A k) (B k) (R k) _ (entry k).requires.claimed.is-period (label y) d.decided-decision.result (decides d) _ _ _ _ _ l.loop-reached.invariant (in-of y).loop-reached-test.true (label_is y) _ _ (stretched c)
 
 compared-few : (c : Compared) → c.compare_stretch-reached.result.t ≤ pool_limit
 compared-few c = let s = entry (base (at-compared c)) in few s.requires.fillable.sounds s.requires.claimed (stretched c).passed.follows.in-room
@@ -260,7 +254,8 @@ cursor_on-b_cursor-requires c =
     let k = base l in
     let g = goes_on f in
     let n = compared-few f in
-    record { sound = (lent k (λ x y. Stride g n l.loop-reached.b_cursor y) (stride-asks g n _ (B k) (entry k).pre.0.sounds.1 l.loop-reached.invariant.along.is-cursor)).0; standing = (lent k (λ x y. Stride g n l.loop-reached.b_cursor y) (stride-asks g n _ (B k) (entry k).pre.0.sounds.1 l.loop-reached.invariant.along.is-cursor)).1; pos_bound = (lent k (λ x y. Stride g n l.loop-reached.b_cursor y) (stride-asks g n _ (B k) (entry k).pre.0.sounds.1 l.loop-reached.invariant.along.is-cursor)).2 }
+    let x = lent k (λ x y. Stride g n l.loop-reached.b_cursor y) (stride-asks g n _ (B k) (entry k).requires.fillable.sounds.1 l.loop-reached.invariant.along.is-cursor) in
+    record { sound = x.0; standing = x.1.0; pos_bound = x.1.1 }
 
 -- the cursor of the next instant
 next-cursor : (c : After-cursor_on-b_cursor) → let f = (goal.at.After-cursor_on-b_cursor c).After-compare_stretch-reached in c.cursor_on-b_cursor.result ≡ cursor_at (B (base (at-compared f))) (pos f.compare_stretch-reached.result.t)
@@ -283,11 +278,11 @@ loop-reached-preserved c =
     let d = decided-of y in
     let i : if_label (given-label y) in_range ≡ true = sym f.in_limits.ensures ∙ not-false _ f.if-not-in_limits.false-raw in
     rw c.any-labelled.ensures
-    (selecting-next (by k) (A k) (B k) (R k) _ (entry k).pre.1.is-period (label (shown d)) d.decided-decision.result (decides d) _ _ _ _ _ l.loop-reached.invariant (in-of (shown d)).loop-reached-test.true (label_is (shown d)) _ _ (stretched f)
-    (sound-valid (A k) (entry k).pre.0.sounds.0) (given_is y) i _ (next-cursor (goal.at.loop-reached-preserved c).After-cursor_on-b_cursor))
+    (selecting-next (by k) (A k) (B k) (R k) _ (entry k).requires.claimed.is-period (label (shown d)) d.decided-decision.result (decides d) _ _ _ _ _ l.loop-reached.invariant (in-of (shown d)).loop-reached-test.true (label_is (shown d)) _ _ (stretched f)
+    (sound-valid (A k) (entry k).requires.fillable.sounds.0) (given_is y) i _ (next-cursor (goal.at.loop-reached-preserved c).After-cursor_on-b_cursor))
 
 pub returns : goal.returns
 returns c =
     let l = (goal.at.returns c).At-loop-reached in
     let k = base l in
-    c.outcome.ensures ∙ seen-matched (operation_of (Select (by k)) (A k) (B k)) (R k) _ _ _ l.loop-reached.invariant.along.stage.seen (omega (arith, c.loop-reached-test.false, (entry k).pre.1.is-period))
+    c.outcome.ensures ∙ seen-matched (operation_of (Select (by k)) (A k) (B k)) (R k) _ _ _ l.loop-reached.invariant.along.stage.seen (omega (arith, c.loop-reached-test.false, (entry k).requires.claimed.is-period))
