@@ -1,6 +1,5 @@
 -- `matching::bottom::match_bottom` meets its contract: one instant is compared, whose label is 0.
 -- Assumes nothing.
-use borrow.Author.Rules.{rules}
 use mathlib.Core.Path.{◌≡◌, refl, sym, ◌∙◌}
 use native.Mathlib.Omega.{arith}
 use lib.IntN.{pos}
@@ -24,7 +23,7 @@ compared-seen-requires c =
     let a = s.args in
     let r = row_in a.pool.now a.r in
     let w = c.begin.ensures bottom r (sound-valid r s.requires.stands.is-sound).positive.0 in
-    record { pos_bound = ((s.requires.pos_bound, (s.requires.stands, (pos 0, simp ints (omega arith), w.cursor)))).0; stands = ((s.requires.pos_bound, (s.requires.stands, (pos 0, simp ints (omega arith), w.cursor)))).1; standing = ((s.requires.pos_bound, (s.requires.stands, (pos 0, simp ints (omega arith), w.cursor)))).2 }
+    record { pos_bound = s.requires.pos_bound; stands = s.requires.stands; standing = (pos 0, simp ints (omega arith), w.cursor) }
 
 pub returns : goal.returns
 returns c =
