@@ -14,9 +14,9 @@ use Rattle.journal.proofs.opened.open.Goals.{After-last_trailer-found, In-At}
 abbrev searching : In-At → After-last_trailer-found
 searching c = (goal.at.In-At c).After-last_trailer-found
 
-found : (c : In-At) → let book = (searching c).before.before.args.book.now in
-    last_in book 0 (length book) ≡ At c.found-1.given.0.0 c.found-1.given.0.1.0
-found c = sym (searching c).last-trailer.ensures ∙ c.in-At.is
+found : (c : In-At) → let book = c.args.book.now in
+    last_in book 0 (length book) ≡ At c.in-At.p c.in-At.n
+found c = sym (searching c).last_trailer-found.ensures ∙ c.in-At.is
 
 pub overflow_sub-result : goal.overflow_sub-result
 overflow_sub-result c = let f = last_found _ _ _ (found c) in omega (arith, f.0.within, f.1)

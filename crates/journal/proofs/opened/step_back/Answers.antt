@@ -17,11 +17,11 @@ abbrev searching : In-At → After-last_trailer-found
 searching c = (goal.at.In-At c).After-last_trailer-found
 
 abbrev start : In-At → Start
-start c = (searching c).before.before
+start c = (goal.at.In-At c).Start
 
 found : (c : In-At) → let w = (start c).args.window.now in
-    last_in w (start c).args.base (length w) ≡ At c.found-1.given.0.0 c.found-1.given.0.1.0
-found c = sym (searching c).last-trailer.ensures ∙ c.in-At.is
+    last_in w (start c).args.base (length w) ≡ At c.in-At.p c.in-At.n
+found c = sym (searching c).last_trailer-found.ensures ∙ c.in-At.is
 
 empty-step : (base : ℕ) → base ≡ 0 → Empty ≡ stepped base Nothing
 empty-step base e = ap (λ (b : ℕ). stepped b Nothing) (sym e)

@@ -12,4 +12,3 @@ invariant-loop-i l = Made 0 l.initial.out 0 l.i l.out
 
 abbrev pub decreases-loop-i : goal.decreases-loop-i
 decreases-loop-i l = length l.initial.out - l.i
-

@@ -13,4 +13,3 @@ invariant-loop-i l = Laid (record_of l.text) (length l.initial.out) l.i l.out
 
 abbrev pub decreases-loop-i : goal.decreases-loop-i
 decreases-loop-i l = length l.initial.out - l.i
-

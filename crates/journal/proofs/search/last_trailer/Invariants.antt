@@ -15,4 +15,3 @@ invariant-loop-p l = (l.p ≤ length l.window) × (last_in l.window l.base (leng
 
 abbrev pub decreases-loop-p : goal.decreases-loop-p
 decreases-loop-p l = l.p
-
