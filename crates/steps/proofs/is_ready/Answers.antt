@@ -32,32 +32,21 @@ passed c = sym c.begin-begun.ensures ∙ ap begun_reply c.in-Entries.is
 
 pub returns-then-table-lengths : goal.returns-then-table-lengths
 returns-then-table-lengths c =
-    let a = c.args in record { test = ((
+    let a = c.args in
+    record { test =
       sym (other-lengths _ a.k a.table.now a.headings.now a.pool.now (λ e.
-          ⊎_elim (λ w. w.taken (ap (λ (l : W.Lengths). l.table) e))
-          (⊎_elim (λ w. eqb-false _ _ (not-true _ w.2.taken) (ap (λ (l : W.Lengths). l.headings) e))
-          (λ w. eqb-false _ _ (not-true _ w.4.taken) (ap (λ (l : W.Lengths). l.pool) e)))
-          c.then-table-lengths.branch-raw)),
-      λ e. absurd (true≢false e refl),
-    )).0; ends = ((
-      sym (other-lengths _ a.k a.table.now a.headings.now a.pool.now (λ e.
-          ⊎_elim (λ w. w.taken (ap (λ (l : W.Lengths). l.table) e))
-          (⊎_elim (λ w. eqb-false _ _ (not-true _ w.2.taken) (ap (λ (l : W.Lengths). l.headings) e))
-          (λ w. eqb-false _ _ (not-true _ w.4.taken) (ap (λ (l : W.Lengths). l.pool) e)))
-          c.then-table-lengths.branch-raw)),
-      λ e. absurd (true≢false e refl),
-    )).1 }
+          ⊎_elim (λ w. w.if-table-lengths.true (ap (λ (l : W.Lengths). l.table) e))
+          (⊎_elim (λ w. eqb-false _ _ (not-true _ w.if-headings-lengths.true-raw) (ap (λ (l : W.Lengths). l.headings) e))
+          (λ w. eqb-false _ _ (not-true _ w.if-pool-lengths.true-raw) (ap (λ (l : W.Lengths). l.pool) e)))
+          c.then-table-lengths.branch-raw));
+      ends = λ e. absurd (true≢false e refl) }
 
 pub returns-in_default : goal.returns-in_default
 returns-in_default c =
     let b = (goal.at.returns-in_default c).After-begin-begun in
-    let a = (start (goal.at.After-begin-begun b).Else-pool-lengths).args in record { test = ((
-      sym (not-admitted _ a.k a.table.now a.headings.now a.pool.now _ (sym b.begin-begun.ensures ∙ ap begun_reply c.in_default.is)),
-      λ e. absurd (true≢false e refl),
-    )).0; ends = ((
-      sym (not-admitted _ a.k a.table.now a.headings.now a.pool.now _ (sym b.begin-begun.ensures ∙ ap begun_reply c.in_default.is)),
-      λ e. absurd (true≢false e refl),
-    )).1 }
+    let a = (start (goal.at.After-begin-begun b).Else-pool-lengths).args in
+    record { test = sym (not-admitted _ a.k a.table.now a.headings.now a.pool.now _ (sym b.begin-begun.ensures ∙ ap begun_reply c.in_default.is));
+      ends = λ e. absurd (true≢false e refl) }
 
 pub returns-then-k-n : goal.returns-then-k-n
 returns-then-k-n c =

@@ -16,7 +16,7 @@ use Rattle.steps.proofs.step.Goals.{After-take_due, In-Due}
 
 -- a walk that has ended
 stays : (w : Walk) (t : List ℤ) (headings : List ℕ) (pool : List ℤ)
-    → ((progress_of w.progress-1 ≡ done) ⊎ ((m : ℕ) × (k : ℕ) × (progress_of w.progress-1 ≡ refused_at m k))) → Gives (W.call (walk_of w) t headings pool) w headings pool
+    → ((progress_of w.progress ≡ done) ⊎ ((m : ℕ) × (k : ℕ) × (progress_of w.progress ≡ refused_at m k))) → Gives (W.call (walk_of w) t headings pool) w headings pool
 stays w t headings pool e =
     subst (λ (s : W.Left). Gives s w headings pool) (sym (ended-stays (walk_of w) t headings pool e)) (record { state = refl; numbers = refl; cells = refl })
 

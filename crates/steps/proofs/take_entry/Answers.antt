@@ -36,7 +36,7 @@ cells c = c.convert_entry-entry.new.pool
 abbrev Says : After-convert_entry-entry → Appended → Type 0
 Says c x =
     let a = (begun c).args in
-    Entered a.table.now a.k (rows_at a.headings-1.now a.pool-1.now a.k) x (numbers c) (cells c)
+    Entered a.table.now a.k (rows_at a.headings.now a.pool.now a.k) x (numbers c) (cells c)
 
 says : (c : After-convert_entry-entry) → Says c c.convert_entry-entry.result
 says c =
@@ -66,10 +66,9 @@ returns-in-Refused c =
     let k = (goal.at.After-clear l).In-Refused in
     let e = (goal.at.In-Refused k).After-convert_entry-entry in
     let a = (begun e).args in
-    let g = k.entry-1.given in
     rw c.number.ensures
-    (entry-refused a.lengths a.k a.table.now a.headings-1.now a.pool-1.now g.0.0 (numbers e) (cells e) e.convert_entry-entry.ensures.lengths.1
-    (subst (Says e) g.1 (says e)) _ _ (cleared-as e.convert_entry-entry.ensures.lengths.0 e.convert_entry-entry.ensures.lengths.1 l.clear.ensures))
+    (entry-refused a.lengths a.k a.table.now a.headings.now a.pool.now k.in-Refused.refusal (numbers e) (cells e) e.convert_entry-entry.ensures.lengths.1
+    (subst (Says e) k.in-Refused.is (says e)) _ _ (cleared-as e.convert_entry-entry.ensures.lengths.0 e.convert_entry-entry.ensures.lengths.1 l.clear.ensures))
 
 pub returns-in-Ends : goal.returns-in-Ends
 returns-in-Ends c =
@@ -77,6 +76,5 @@ returns-in-Ends c =
     let k = (goal.at.After-clear_cells l).In-Ends in
     let e = taking k in
     let a = (begun e).args in
-    let g = k.entry-in-Ends-1.given in
-    entry-taken a.lengths a.k a.table.now a.headings-1.now a.pool-1.now g.0.0 (numbers e) (cells e) e.convert_entry-entry.ensures.lengths.0 e.convert_entry-entry.ensures.lengths.1
-    (subst (Says e) g.1 (says e)) _ c.progress_behind.ensures _ l.clear_cells.ensures
+    entry-taken a.lengths a.k a.table.now a.headings.now a.pool.now k.in-Ends.end (numbers e) (cells e) e.convert_entry-entry.ensures.lengths.0 e.convert_entry-entry.ensures.lengths.1
+    (subst (Says e) k.in-Ends.is (says e)) _ c.progress_behind.ensures _ l.clear_cells.ensures
