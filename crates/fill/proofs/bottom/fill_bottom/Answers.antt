@@ -1,6 +1,5 @@
 -- `fill::bottom::fill_bottom` meets its contract: the working row has one cell, the label of the instant 0.
 -- Assumes nothing.
-use borrow.Author.Rules.{rules}
 use mathlib.Core.Path.{◌≡◌, refl, sym, ◌∙◌, ap}
 use mathlib.Core.Option.{some}
 use mathlib.Core.Bool.{true, false}
