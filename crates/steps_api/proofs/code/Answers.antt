@@ -9,12 +9,6 @@ use Rattle.steps_api.proofs.Numbers.{product, sum, code}
 use borrow.Author.Rules.{rules}
 use Rattle.steps_api.proofs.code.Goals as goal
 
-pub overflow_mul-result : goal.overflow_mul-result
-overflow_mul-result c = product c.progress-1.given.0.0 (omega arith)
-
-pub overflow_add-result : goal.overflow_add-result
-overflow_add-result c = sum c.progress-1.given.0.0 c.progress-1.given.0.1.0 (omega arith) (omega arith)
-
 pub returns-in-Due : goal.returns-in-Due
 returns-in-Due c = sym (ap (λ (x : Progress). progress_code (progress_of x)) c.in-Due.is)
 
@@ -23,5 +17,4 @@ returns-in-Done c = sym (ap (λ (x : Progress). progress_code (progress_of x)) c
 
 pub returns-in-Refused : goal.returns-in-Refused
 returns-in-Refused c =
-    let g = c.progress-1.given in
-    code g.0.0 g.0.1.0 (omega arith) (omega arith) ∙ sym (ap (λ (x : Progress). progress_code (progress_of x)) g.1)
+    code c.in-Refused.m c.in-Refused.k (search rules) (search rules) ∙ sym (ap (λ (x : Progress). progress_code (progress_of x)) c.in-Refused.is)

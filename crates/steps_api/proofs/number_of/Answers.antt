@@ -1,6 +1,7 @@
 -- `steps_api::number_of` meets its contract.
 -- Assumes nothing.
 use mathlib.Core.Path.{◌≡◌, refl, sym, ◌∙◌, ap}
+use Prim.Native.Nat.{◌<◌, ◌^◌}
 use native.Mathlib.Omega.{arith}
 use Rattle.steps.specs.declared.Progress.{Progress}
 use Rattle.steps.specs.State.{progress_of}
@@ -9,21 +10,14 @@ use Rattle.steps_api.proofs.Numbers.{product, sum, code, back}
 use borrow.Author.Rules.{rules}
 use Rattle.steps_api.proofs.number_of.Goals as goal
 
-pub overflow_mul-result : goal.overflow_mul-result
-overflow_mul-result c = product c.progress-in-Refused-1.given.0.0 (omega arith)
-
-pub overflow_add-result : goal.overflow_add-result
-overflow_add-result c = sum c.progress-in-Refused-1.given.0.0 c.progress-in-Refused-1.given.0.1.0 (omega arith) (omega arith)
-
 pub returns-in-Due : goal.returns-in-Due
 returns-in-Due c =
-    let g = c.progress-1.given in
-    back g.0.0 (omega arith) ∙ sym (ap (λ (x : Progress). number (progress_of x)) g.1)
+    let small : c.in-Due.k < 2 ^ 32 = search rules in
+    back c.in-Due.k (omega (arith, small)) ∙ sym (ap (λ (x : Progress). number (progress_of x)) c.in-Due.is)
 
 pub returns-in-Done : goal.returns-in-Done
 returns-in-Done c = sym (ap (λ (x : Progress). number (progress_of x)) c.in-Done.is)
 
 pub returns-in-Refused : goal.returns-in-Refused
 returns-in-Refused c =
-    let g = c.progress-in-Refused-1.given in
-    code g.0.0 g.0.1.0 (omega arith) (omega arith) ∙ sym (ap (λ (x : Progress). number (progress_of x)) g.1)
+    code c.in-Refused.m c.in-Refused.k (search rules) (search rules) ∙ sym (ap (λ (x : Progress). number (progress_of x)) c.in-Refused.is)

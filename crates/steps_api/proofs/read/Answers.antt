@@ -34,18 +34,17 @@ staged c =
 pub returns-in-At : goal.returns-in-At
 returns-in-At c =
     let p = (goal.at.returns-in-At c).After-progress_in-staged in
-    let g = c.staged-1.given in
     let n3 = (goal.at.After-progress_in-staged p).After-natural-3 in
     let n2 = (goal.at.After-natural-3 n3).After-natural-2 in
     let n1 = (goal.at.After-natural-2 n2).After-natural in
     let s = (start (goal.at.After-progress_in-staged p).After-natural-5).args.state.now in
-    held-walk s (eight (goal.at.After-progress_in-staged p).After-natural-5).if1.false _ g.0.0
+    held-walk s (eight (goal.at.After-progress_in-staged p).After-natural-5).if-state-ne-STATE_LENGTH.false _ c.in-At.progress
     (n1.natural.ensures ∙ ap up {y = get_or s 2 (pos 0)} (to_z-of_z {w = w64} (sfits_of n1.natural-arg-1.given)))
     (n2.natural-2.ensures ∙ ap up {y = get_or s 3 (pos 0)} (to_z-of_z {w = w64} (sfits_of n2.natural-arg-2-1.given)))
     (n3.natural-3.ensures ∙ ap up {y = get_or s 4 (pos 0)} (to_z-of_z {w = w64} (sfits_of n3.natural-arg-3-1.given)))
-    (sym (ap staged_as g.1) ∙ staged p)
+    (sym (ap staged_as c.in-At.is) ∙ staged p)
 
 pub returns-in-Nowhere : goal.returns-in-Nowhere
 returns-in-Nowhere c =
     let p = (goal.at.returns-in-Nowhere c).After-progress_in-staged in
-    held_none (start (goal.at.After-progress_in-staged p).After-natural-5).args.state.now (eight (goal.at.After-progress_in-staged p).After-natural-5).if1.false (sym (ap staged_as c.in-Nowhere.is) ∙ staged p)
+    held_none (start (goal.at.After-progress_in-staged p).After-natural-5).args.state.now (eight (goal.at.After-progress_in-staged p).After-natural-5).if-state-ne-STATE_LENGTH.false (sym (ap staged_as c.in-Nowhere.is) ∙ staged p)

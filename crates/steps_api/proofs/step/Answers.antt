@@ -10,6 +10,7 @@ use Rattle.steps_api.specs.Told.{called_in}
 use Rattle.steps_api.proofs.Telling.{walk-eight, told-nothing, told-step}
 use borrow.Author.Rules.{rules, sfits_of}
 use mir.Facts.{to_z-of_z}
+use mir.Syntax.{w64}
 use Rattle.steps_api.proofs.step.Goals as goal
 use Rattle.steps_api.proofs.step.Goals.{After-read-held, After-step-next, After-write_progress, In-Is}
 

@@ -2,6 +2,7 @@
 -- Assumes nothing.
 use mathlib.Core.Path.{◌≡◌, refl, sym, ◌∙◌, ap, ap₂}
 use mir.Facts.{to_z-of_z}
+use mir.Syntax.{w64}
 use mathlib.Core.List.{List, ◌∷◌}
 use lib.IntN.{ℤ}
 use lib.ListN.{drop}
