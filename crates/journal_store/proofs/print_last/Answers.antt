@@ -6,4 +6,4 @@ use Rattle.journal_store.specs.Seen.{Within}
 use Rattle.journal_store.proofs.print_last.Goals as goal
 
 pub print_body-requires : goal.print_body-requires
-print_body-requires c = subst Within c.found-1.given.1 c.search-found.ensures
+print_body-requires g c = subst Within c.in-Body.is c.search-found.ensures
