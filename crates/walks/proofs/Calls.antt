@@ -8,7 +8,6 @@ use lib.IntN.{ℤ}
 use lib.ListN.{length}
 use Rattle.calendar.specs.Meaning.{Row, empty}
 use Rattle.calendar.specs.Limits.{pool_limit, heading_length}
-use Rattle.calendar.specs.Least.{least}
 use Rattle.calendar.specs.Reply.Reply.{answer}
 use Rattle.calendar.specs.Outcome.{Outcome, judged}
 use Rattle.calendar.specs.Table.{entry_at}

@@ -2,11 +2,10 @@
 use mathlib.Core.Path.{◌≡◌, refl, sym, ◌∙◌, ap, ap₂, subst}
 use mathlib.Core.Logic.{inr, ◌↔◌}
 use mathlib.Core.Bool.{Bool, true, false, cond}
-use mathlib.Core.List.{List, [], ◌∷◌, ◌++◌, Memᴰ}
+use mathlib.Core.List.{List, [], ◌∷◌, ◌++◌}
 use Prim.Native.Nat.{ℕ, zero, suc, ◌+◌, ◌-◌, ◌/◌, ◌≤◌, ◌<◌}
 use native.Mathlib.Omega.{arith}
 use lib.Dec.{eqb}
-use lib.IntN.{ℤ}
 use lib.ListN.{length, get_or, take, length-append}
 use lib.Seq.{length-take-le}
 use Rattle.calendar.specs.Meaning.{Row, meant, bottom_row, IsCalendar, LeastRow, Same}
@@ -18,14 +17,12 @@ use Rattle.calendar.specs.Limits.{heading_length}
 use Rattle.granules.proofs.Tests.{eqb-iff}
 use Rattle.granules.proofs.Equal.{equal-rows, row-ext}
 use Rattle.algebra.proofs.Stored.{get_or-mem}
-use Rattle.conversion.specs.Shows.{row_at}
-use Rattle.standing.specs.Standing.{rows_at, Standing}
-use Rattle.walks.specs.Walk.{Lengths, Walk, Left, lengths_of, entries_of, progress_after, left, begun, start, stepped, call, admits}
+use Rattle.standing.specs.Standing.{rows_at}
+use Rattle.walks.specs.Walk.{Lengths, Walk, Left, lengths_of, entries_of, progress_after, left, begun, start, stepped, admits}
 use Rattle.walks.specs.Walk.Progress.{due, done, refused_at}
 use Rattle.walks.specs.Runs.{Lent, call_on, through}
 use Rattle.walks.specs.Demands.{due_at, Took, Finished, step_of, left_by, row_of, granules_of}
-use Rattle.conversion.proofs.Headings.{row-left}
-use Rattle.standing.proofs.Decides.{rows-length, Least, all-least, whole_of}
+use Rattle.standing.proofs.Decides.{rows-length, Least, all-least}
 use Rattle.walks.proofs.Kept.{least-means, standing-row, standing-counted}
 use Rattle.walks.proofs.Came.{call-due, ended-stays, Came, came, left-walk, admitted-gives}
 use Rattle.walks.proofs.Came.Came.{failed, declined, took}

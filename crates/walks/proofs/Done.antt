@@ -12,7 +12,7 @@ use lib.ListN.{length, take, drop, take-append-drop}
 use lib.Seq.{length-take-le}
 use Rattle.calendar.specs.Meaning.{Row}
 use Rattle.calendar.specs.Reply.Reply.{answer}
-use Rattle.calendar.specs.Outcome.{Outcome, entries, outcome}
+use Rattle.calendar.specs.Outcome.{Outcome, entries}
 use Rattle.calendar.specs.Outcome.Outcome.{rows}
 use Rattle.calendar.specs.Stored.{headings_after, pool_after}
 use Rattle.granules.proofs.Tests.{eqb-iff}

@@ -2,7 +2,7 @@
 use mathlib.Core.Path.{◌≡◌, refl, sym, ◌∙◌, ap, subst}
 use mathlib.Core.Logic.{inl, inr, ◌↔◌}
 use mathlib.Core.Bool.{Bool, true, false, ◌&&◌, cond}
-use mathlib.Core.List.{List, [], ◌∷◌, ◌++◌, map}
+use mathlib.Core.List.{List, [], ◌∷◌, ◌++◌}
 use Prim.Native.Nat.{ℕ, suc, ◌/◌, ◌%◌, ◌≤◌, ◌<◌}
 use native.Mathlib.Omega.{arith}
 use lib.Dec.{eqb, leb}
@@ -13,7 +13,7 @@ use Rattle.calendar.specs.Limits.{pool_limit, entry_limit, heading_length}
 use Rattle.calendar.specs.Reply.{Reply, require}
 use Rattle.calendar.specs.Reply.Reply.{refused, answer}
 use Rattle.calendar.specs.Outcome.{Outcome, judged}
-use Rattle.calendar.specs.Table.{entry_at, admitted}
+use Rattle.calendar.specs.Table.{entry_at}
 use Rattle.calendar.specs.Outcome.Outcome.{rows}
 use Rattle.calendar.specs.Stored.{headings_after, pool_after}
 use Rattle.granules.proofs.Tests.{true≢false, eqb-iff, ltb_iff}
@@ -22,7 +22,7 @@ use Rattle.walks.specs.Walk.{Lengths, Progress, Walk, Left, lengths_of, entries_
 use Rattle.walks.specs.Walk.Progress.{due, done, refused_at}
 use Rattle.walks.specs.Runs.{Lent, call_on, Reached}
 use Rattle.walks.specs.Runs.Reached.{started, called}
-use Rattle.walks.specs.Demands.{meaning_of, Took, Declined, Judged}
+use Rattle.walks.specs.Demands.{Took, Declined, Judged}
 use Rattle.walks.proofs.Kept.{JudgedOver, filled-again, judged-means, last-shown, last-counts}
 use Rattle.standing.proofs.Decides.{rows-length, all-least, standing-decides}
 use Rattle.walks.proofs.Came.{call-due, ended-stays, ready-iff, admitted-gives, entry_of, room_at, Came, came, left-progress, left-walk}

@@ -24,7 +24,7 @@ use Rattle.algebra.proofs.Steps.{after_entry, entries-zero, entries-suc, after_t
 use Rattle.algebra.proofs.Stored.{joined_length}
 use Rattle.standing.specs.Standing.{Standing}
 use Rattle.walks.specs.Walk.{Lengths, Walk, Left, lengths_of, entries_of, left, begun, start, is_entry, ready, entered, stepped, call, admits, converts}
-use Rattle.walks.specs.Walk.Progress.{due, done, refused_at}
+use Rattle.walks.specs.Walk.Progress.{due, done}
 use Rattle.walks.specs.Runs.{calls, assembled, AllOf}
 use Rattle.conversion.proofs.Headings.{filled-length, headings-length}
 use Rattle.standing.proofs.Decides.{AllLeast, standing-passes, standing-shown}

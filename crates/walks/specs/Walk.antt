@@ -1,6 +1,5 @@
 -- A walk: the state of a conversion in steps, its start and a call (document 02, Req 09).
-use Rattle.std.specs.Prelude.{Bool, true, false, ◌&&◌, cond, List, [], ℕ, suc, ◌-◌, ◌/◌, eqb, ltb, ℤ, length}
-use Rattle.calendar.specs.Meaning.{Row}
+use Rattle.std.specs.Prelude.{Bool, false, ◌&&◌, cond, List, [], ℕ, ◌-◌, ◌/◌, eqb, ltb, ℤ, length}
 use Rattle.calendar.specs.Reply.{Reply}
 use Rattle.calendar.specs.Reply.Reply.{refused, answer}
 use Rattle.calendar.specs.Limits.{heading_length}

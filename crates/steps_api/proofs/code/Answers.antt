@@ -1,11 +1,10 @@
 -- `steps_api::code` meets its contract.
 -- Assumes nothing.
-use mathlib.Core.Path.{◌≡◌, refl, sym, ◌∙◌, ap}
-use native.Mathlib.Omega.{arith}
+use mathlib.Core.Path.{sym, ◌∙◌, ap}
 use Rattle.steps.specs.declared.Progress.{Progress}
 use Rattle.steps.specs.State.{progress_of}
 use Rattle.steps_api.specs.Codes.{progress_code}
-use Rattle.steps_api.proofs.Numbers.{product, sum, code}
+use Rattle.steps_api.proofs.Numbers.{code}
 use borrow.Author.Rules.{rules}
 use Rattle.steps_api.proofs.code.Goals as goal
 

@@ -1,12 +1,12 @@
 -- `steps_api::number_of` meets its contract.
 -- Assumes nothing.
-use mathlib.Core.Path.{◌≡◌, refl, sym, ◌∙◌, ap}
+use mathlib.Core.Path.{sym, ◌∙◌, ap}
 use Prim.Native.Nat.{◌<◌, ◌^◌}
 use native.Mathlib.Omega.{arith}
 use Rattle.steps.specs.declared.Progress.{Progress}
 use Rattle.steps.specs.State.{progress_of}
 use Rattle.steps_api.specs.Codes.{number}
-use Rattle.steps_api.proofs.Numbers.{product, sum, code, back}
+use Rattle.steps_api.proofs.Numbers.{code, back}
 use borrow.Author.Rules.{rules}
 use Rattle.steps_api.proofs.number_of.Goals as goal
 

@@ -1,7 +1,6 @@
 -- `steps_api::progress_in` meets its contract, case by case.
 -- Assumes nothing.
 use borrow.Author.Tests.{eq-eqb, ne_eqb, lt-ltb, le-ltb}
-use borrow.Author.Rules.{rules}
 use Rattle.steps_api.proofs.progress_in.Goals as goal
 
 pub returns-then-number-lt64 : goal.returns-then-number-lt64

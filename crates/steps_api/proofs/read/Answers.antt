@@ -1,14 +1,14 @@
 -- `steps_api::read` meets its contract: five numbers of the state, each not below 0.
 -- Assumes nothing.
-use mathlib.Core.Path.{◌≡◌, refl, sym, ◌∙◌, ap, ap₂}
+use mathlib.Core.Path.{◌≡◌, sym, ◌∙◌, ap, ap₂}
 use lib.IntN.{pos}
-use lib.ListN.{length, get_or}
+use lib.ListN.{get_or}
 use mir.Facts.{to_z-of_z}
 use mir.Syntax.{w64}
 use Rattle.integers.specs.Parts.{up}
 use Rattle.steps_api.specs.Held.{staged_as, progress_in}
 use Rattle.steps_api.proofs.Telling.{other_length, held_none, held-walk}
-use borrow.Author.Rules.{rules, sfits_of}
+use borrow.Author.Rules.{sfits_of}
 use Rattle.steps_api.proofs.read.Goals as goal
 use Rattle.steps_api.proofs.read.Goals.{After-natural, After-natural-2, After-natural-3, After-natural-4, After-natural-5, After-progress_in-staged, Else-state-ne-STATE_LENGTH, Start}
 

@@ -1,11 +1,9 @@
 -- `steps_api::stage_of` meets its contract.
 -- Assumes nothing.
-use mathlib.Core.Path.{◌≡◌, refl, sym, ◌∙◌, ap}
-use lib.IntN.{ℤ}
+use mathlib.Core.Path.{sym, ap}
 use Rattle.steps.specs.declared.Progress.{Progress}
 use Rattle.steps.specs.State.{progress_of}
 use Rattle.steps_api.specs.Codes.{stage}
-use borrow.Author.Rules.{rules}
 use Rattle.steps_api.proofs.stage_of.Goals as goal
 
 pub returns-in-Due : goal.returns-in-Due

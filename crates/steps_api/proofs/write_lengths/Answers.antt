@@ -1,9 +1,7 @@
 -- `steps_api::write_lengths` meets its contract.
 -- Assumes nothing.
-use mathlib.Core.Path.{◌≡◌, sym, ◌∙◌, ap}
 use Rattle.integers.proofs.Machine.{plain}
 use Rattle.steps_api.proofs.Numbers.{three-set}
-use borrow.Author.Rules.{rules}
 use Rattle.steps_api.proofs.write_lengths.Goals as goal
 
 pub returns : goal.returns

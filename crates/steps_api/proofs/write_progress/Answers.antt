@@ -1,13 +1,13 @@
 -- `steps_api::write_progress` meets its contract.
 -- Assumes nothing.
-use mathlib.Core.Path.{◌≡◌, refl, sym, ◌∙◌, ap, ap₂}
+use mathlib.Core.Path.{◌∙◌, ap₂}
 use mir.Facts.{to_z-of_z}
 use mir.Syntax.{w64}
-use mathlib.Core.List.{List, ◌∷◌}
+use mathlib.Core.List.{◌∷◌}
 use lib.IntN.{ℤ}
 use lib.ListN.{drop}
 use Rattle.steps_api.proofs.Numbers.{two-set}
-use borrow.Author.Rules.{rules, sfits_of}
+use borrow.Author.Rules.{sfits_of}
 use Rattle.steps_api.proofs.write_progress.Goals as goal
 use Rattle.steps_api.proofs.write_progress.Goals.{Start}
 
