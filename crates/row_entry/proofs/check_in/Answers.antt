@@ -30,7 +30,7 @@ abbrev passed : After-struct_told-4-1 → Else-not-are_full
 passed c = (goal.at.After-struct_told-4-1 c).Else-not-are_full
 
 abbrev start : After-struct_told-4-1 → Start
-start c = (passed c).before.before
+start c = (goal.at.After-struct_told-4-1 c).Start
 
 a-handed : (c : After-struct_told-4-1) → let s = start c in
     handed s.args.pool.now s.args.a c.end_of-a_end.result ≡ row_in s.args.pool.now s.args.a
@@ -48,11 +48,17 @@ b-handed c =
 
 pub check-requires : goal.check-requires
 check-requires c =
-    let s = start c in
+    let k = (goal.at.check-requires c).After-struct_told-4-1 in
+    let s = start k in
     let room = s.ranges.room in
     let p = s.requires in
-    let f = sym (full_is (passed c).before) ∙ not-false _ (passed c).if1.false in
-    record { numbers = ((p.0, (rw (a-handed c, b-handed c) p.1.0, (rw (a-handed c, b-handed c) f, simp plain p.1.1.1.1.1.1)))).0; sound_first = ((p.0, (rw (a-handed c, b-handed c) p.1.0, (rw (a-handed c, b-handed c) f, simp plain p.1.1.1.1.1.1)))).1; b_cells_value = ((p.0, (rw (a-handed c, b-handed c) p.1.0, (rw (a-handed c, b-handed c) f, simp plain p.1.1.1.1.1.1)))).2; pos_bound = ((p.0, (rw (a-handed c, b-handed c) p.1.0, (rw (a-handed c, b-handed c) f, simp plain p.1.1.1.1.1.1)))).3 }
+    let f = sym (full_is (goal.at.After-struct_told-4-1 k).After-are_full) ∙ not-false _ (passed k).if-not-are_full.false-raw in
+    record {
+      numbers = p.numbers;
+      sound_first = rw (a-handed k, b-handed k) p.sound_first;
+      b_cells_value = rw (a-handed k, b-handed k) f;
+      pos_bound = simp plain p.pos_bound;
+    }
 
 pub returns : goal.returns
 returns c =

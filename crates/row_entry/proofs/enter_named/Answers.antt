@@ -14,13 +14,10 @@ operand_at-second-requires c = let p = c.requires in omega (arith, p.names.1.sec
 
 pub enter-requires : goal.enter-requires
 enter-requires c =
-    let b = (goal.at.enter-requires c).After-operand_at-second in
-    let a = (goal.at.After-operand_at-second b).After-slice_known-1 in
-    let s = a.before.before.before in
-    let g = s.args in
-    let p = s.requires in
-    enterable p.rows.0 g.k g.headings-1.now g.pool-1.now g.used p.rows.1 p.rows.2 g.named p.names.0 p.names.1
-    a.Operand-at.result b.operand_at-second.result a.Operand-at.ensures b.operand_at-second.ensures p.at-most p.has-heading
+    let g = c.args in
+    let p = c.requires in
+    enterable p.rows.0 g.k g.headings.now g.pool.now g.used p.rows.1 p.rows.2 g.named p.names.0 p.names.1
+    c.operand_at-first.result c.operand_at-second.result c.operand_at-first.ensures c.operand_at-second.ensures p.at-most p.has-heading
 
 pub shape_of-headings : goal.shape_of-headings
 shape_of-headings c = search rules
@@ -30,18 +27,10 @@ shape_of-pool c = search rules
 
 pub returns : goal.returns
 returns c =
-    let n = (goal.at.returns c).After-enter in
-    let b = (goal.at.After-enter n).After-operand_at-second in
-    let a = (goal.at.After-operand_at-second b).After-slice_known-1 in
-    let s = a.before.before.before in
-    let g = s.args in record { lengths = ((
-      (shape_of-headings c, shape_of-pool c),
-      λ l o many t names. became-as l g.k g.headings-1.now g.pool-1.now g.used many t g.named o names
-          a.Operand-at.result b.operand_at-second.result a.Operand-at.ensures b.operand_at-second.ensures
-          n.enter.result n.enter.new.headings n.enter.new.pool n.enter.ensures.became,
-    )).0; became = ((
-      (shape_of-headings c, shape_of-pool c),
-      λ l o many t names. became-as l g.k g.headings-1.now g.pool-1.now g.used many t g.named o names
-          a.Operand-at.result b.operand_at-second.result a.Operand-at.ensures b.operand_at-second.ensures
-          n.enter.result n.enter.new.headings n.enter.new.pool n.enter.ensures.became,
-    )).1 }
+    let g = c.args in
+    record {
+      lengths = (shape_of-headings c, shape_of-pool c);
+      became = λ l o many t names. became-as l g.k g.headings.now g.pool.now g.used many t g.named o names
+          c.operand_at-first.result c.operand_at-second.result c.operand_at-first.ensures c.operand_at-second.ensures
+          c.enter.result c.enter.new.headings c.enter.new.pool c.enter.ensures.became;
+    }

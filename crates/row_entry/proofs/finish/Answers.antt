@@ -2,7 +2,6 @@
 -- Assumes nothing.
 use mathlib.Core.Path.{◌≡◌, refl, ◌∙◌, ap}
 use Prim.Native.Nat.{ℕ, ◌^◌, ◌≤◌, ◌<◌}
-use borrow.Author.Rules.{rules}
 use native.Mathlib.Omega.{arith}
 use lib.IntN.{ℤ, pos}
 use lib.Signed.{◌≤ℤ◌}
@@ -82,7 +81,7 @@ count c =
 
 -- the start of the row, as a number of its heading
 used-small : (c : Start) → c.args.used ≤ pool_limit
-used-small c = omega (arith, c.requires.worked.fits, c.requires.worked.at_most)
+used-small c = omega (arith, c.requires.worked.fits, c.requires.worked.at-most)
 
 -- ---- from place to place
 abbrev shaped : After-least_distance-rise → After-least_of-least
@@ -101,7 +100,7 @@ abbrev least_of : After-struct_told-4-1 → After-least_of-least
 least_of c = shaped (distanced (shortened (numbered c)))
 
 pub number-requires : goal.number-requires
-number-requires c = let s = (shaped (goal.at.number-requires c).After-least_distance-rise).before.before in number-limits s.args.used (used-small s)
+number-requires c = let s = (goal.at.number-requires c).Start in number-limits s.args.used (used-small s)
 
 pub number-requires-2 : goal.number-requires-2
 number-requires-2 c =
@@ -109,7 +108,7 @@ number-requires-2 c =
     let s = (goal.at.After-least_of-least l).Start in
     let f = at l in
     let z = f.fits in
-    simp plain (f.low, rw f.is (simp ints (omega (arith, f.short, ap up f.is, s.requires.worked.fits, s.requires.worked.at_most))))
+    simp plain (f.low, rw f.is (simp ints (omega (arith, f.short, ap up f.is, s.requires.worked.fits, s.requires.worked.at-most))))
 
 pub number-requires-3 : goal.number-requires-3
 number-requires-3 c =
@@ -131,9 +130,9 @@ overflow_cast-result c =
 
 pub overflow_add-result : goal.overflow_add-result
 overflow_add-result c =
-    let s = (least_of c).before.before in
+    let s = (goal.at.overflow_add-result c).Start in
     let f = at (least_of c) in
-    omega (arith, f.read, f.short, s.requires.worked.fits, s.requires.worked.at_most)
+    omega (arith, f.read, f.short, s.requires.worked.fits, s.requires.worked.at-most)
 
 pub returns : goal.returns
 returns c =

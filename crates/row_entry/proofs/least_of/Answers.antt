@@ -3,7 +3,7 @@
 use mathlib.Core.Path.{◌≡◌, ◌∙◌, ap}
 use mathlib.Core.List.{List}
 use Prim.Native.Nat.{◌+◌}
-use borrow.Author.Rules.{rules, sfits_of}
+use borrow.Author.Rules.{sfits_of}
 use native.Mathlib.Omega.{arith}
 use lib.IntN.{ℤ, pos, nat_abs}
 use lib.ListN.{take, drop}
@@ -46,27 +46,25 @@ slice_bounds-least_period-end c = omega (arith, ends (goal.at.slice_bounds-least
 pub least_period-found-requires : goal.least_period-found-requires
 least_period-found-requires c =
     let s = (goal.at.least_period-found-requires c).Start in
-    let a = s.args in record { cells_value = ((
-      handed-sound a.period a.distance a.used a.pool.now s.requires s.ranges.period s.ranges.distance,
-      to_z-of_z {w = w64} (sfits_of c.granules-granules.type_inv) ∙ c.granules-granules.ensures,
-    )).0; granules_value = ((
-      handed-sound a.period a.distance a.used a.pool.now s.requires s.ranges.period s.ranges.distance,
-      to_z-of_z {w = w64} (sfits_of c.granules-granules.type_inv) ∙ c.granules-granules.ensures,
-    )).1 }
+    let a = s.args in
+    record {
+      cells_value = handed-sound a.period a.distance a.used a.pool.now s.requires s.ranges.period s.ranges.distance;
+      granules_value = to_z-of_z {w = w64} (sfits_of c.granules-granules.type_inv) ∙ c.granules-granules.ensures;
+    }
 
 -- ---- the least period and R of the working row
 abbrev counting : After-least_period-found → After-granules-granules
 counting c = (goal.at.After-least_period-found c).After-granules-granules
 
 abbrev start : After-least_period-found → Start
-start c = (counting c).before.before
+start c = (goal.at.After-least_period-found c).Start
 
 at : (c : After-least_period-found) → let a = (start c).args in Found a.period a.distance a.used a.pool.now c.least_period-found.result.period
 at c =
     let s = start c in
     let a = s.args in
     let l = c.least_period-found in
-    found-handed a.period a.distance a.used a.pool.now s.pre s.ranges.period s.ranges.distance l.result.period l.ensures.least
+    found-handed a.period a.distance a.used a.pool.now s.requires s.ranges.period s.ranges.distance l.result.period l.ensures.least
 
 abbrev cells : Start → List ℤ
 cells s = take (up s.args.period) (drop s.args.used s.args.pool.now)
@@ -78,18 +76,18 @@ is-least c =
     let p = s.ranges.period in
     let f = at c in
     let z = f.fits in
-    simp plain (record { passed = s.pre.is-sound; is = f.is })
+    simp plain (record { passed = s.requires.is-sound; is = f.is })
 
 counted : (c : After-least_period-found) → let s = start c in
-    to_z w64 (of_z w64 (counting c).granules.result) ≡ pos (granules (given (to_z w64 (of_z w64 s.args.period)) s.args.distance (cells s)))
+    to_z w64 (of_z w64 (counting c).granules-granules.result) ≡ pos (granules (given (to_z w64 (of_z w64 s.args.period)) s.args.distance (cells s)))
 counted c =
     let s = start c in
     let a = s.args in
     let p = s.ranges.period in
-    let g : SFits w64 (counting c).granules.result = sfits_of (counting c).granules.type-inv in
+    let g : SFits w64 (counting c).granules-granules.result = sfits_of (counting c).granules-granules.type_inv in
     simp plain
-    ((counting c).granules.ensures
-    ∙ ap (λ (r : Row). pos (granules r)) (handed-row a.period a.distance a.used a.pool.now s.pre p s.ranges.distance))
+    ((counting c).granules-granules.ensures
+    ∙ ap (λ (r : Row). pos (granules r)) (handed-row a.period a.distance a.used a.pool.now s.requires p s.ranges.distance))
 
 pub least_granules-requires : goal.least_granules-requires
 least_granules-requires c = (_, _, is-least (goal.at.least_granules-requires c).After-least_period-found, counted (goal.at.least_granules-requires c).After-least_period-found)

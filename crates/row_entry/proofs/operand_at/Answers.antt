@@ -4,7 +4,6 @@ use Prim.Native.Nat.{◌+◌, ◌*◌}
 use native.Mathlib.Omega.{arith}
 use Rattle.calendar.specs.Limits.{heading_length}
 use Rattle.row_entry.proofs.Numbers.{wide-number}
-use borrow.Author.Rules.{rules}
 use Rattle.row_entry.proofs.operand_at.Goals as goal
 
 pub overflow_cast-result : goal.overflow_cast-result

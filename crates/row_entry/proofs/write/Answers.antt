@@ -22,70 +22,47 @@ overflow_cast-extent c =
 pub fill-filled-requires : goal.fill-filled-requires
 fill-filled-requires c =
     let s = (goal.at.fill-filled-requires c).Start in
-    let a = s.args in record { fillable = ((
-      is-given a.kind a.extent a.a a.b a.k a.used a.headings.now a.pool.now s.requires.enterable s.requires.used_value (fits s),
-      placed a.kind a.extent a.a a.b a.k a.used a.headings.now a.pool.now s.requires.enterable s.requires.used_value (fits s),
-    )).0; placed = ((
-      is-given a.kind a.extent a.a a.b a.k a.used a.headings.now a.pool.now s.requires.enterable s.requires.used_value (fits s),
-      placed a.kind a.extent a.a a.b a.k a.used a.headings.now a.pool.now s.requires.enterable s.requires.used_value (fits s),
-    )).1 }
+    let a = s.args in
+    record { fillable = is-given a.kind a.extent a.a a.b a.k a.used a.headings.now a.pool.now s.requires.enterable s.requires.used_value (fits s); placed = placed a.kind a.extent a.a a.b a.k a.used a.headings.now a.pool.now s.requires.enterable s.requires.used_value (fits s) }
 
 pub finish-requires : goal.finish-requires
 finish-requires c =
-    let l = (goal.at.finish-requires c).After-struct_told-2-1 in
-    let s = (goal.at.After-struct_told-2-1 l).Start in
+    let l = (goal.at.finish-requires c).After-fill-filled in
+    let s = (goal.at.finish-requires c).Start in
     let a = s.args in
     let f = fits s in
     let p = f.period in
-    let d = f.distance in record { worked = ((
-      simp plain (is-worked a.kind a.extent a.a a.b a.k a.used a.headings.now a.pool.now s.requires.enterable s.requires.used_value f _
-          _ l.fill-filled.ensures.answer c.enum_told-in-Labelled-1.given.1 l.fill-filled.ensures.row),
-      s.requires.enterable.has-heading,
-    )).0; heading_length_in_bounds = ((
-      simp plain (is-worked a.kind a.extent a.a a.b a.k a.used a.headings.now a.pool.now s.requires.enterable s.requires.used_value f _
-          _ l.fill-filled.ensures.answer c.enum_told-in-Labelled-1.given.1 l.fill-filled.ensures.row),
-      s.requires.enterable.has-heading,
-    )).1 }
+    let d = f.distance in
+    record {
+      worked = simp plain (is-worked a.kind a.extent a.a a.b a.k a.used a.headings.now a.pool.now s.requires.enterable s.requires.used_value f _ _ l.fill-filled.ensures.answer c.in-Labelled.is l.fill-filled.ensures.row);
+      heading_length_in_bounds = s.requires.enterable.has-heading;
+    }
 
 pub returns-in-Unlabelled : goal.returns-in-Unlabelled
 returns-in-Unlabelled c =
     let l = (goal.at.returns-in-Unlabelled c).After-fill-filled in
-    let s = (goal.at.After-fill-filled l).Start in
-    let a = s.args in record { lengths = ((
-      (search rules, l.fill-filled.ensures.lengths),
-      (
-        none-labelled _ _ _ (passed a.kind a.extent a.a a.b a.k a.used a.headings.now a.pool.now s.requires.enterable s.requires.used_value (fits s))
-            _ l.fill-filled.ensures.answer c.in-Unlabelled.is,
+    let s = (goal.at.returns-in-Unlabelled c).Start in
+    let a = s.args in
+    record {
+      lengths = (search rules, l.fill-filled.ensures.lengths);
+      became = (
+        none-labelled _ _ _ (passed a.kind a.extent a.a a.b a.k a.used a.headings.now a.pool.now s.requires.enterable s.requires.used_value (fits s)) _ l.fill-filled.ensures.answer c.in-Unlabelled.is,
         record { numbers = refl; cells = l.fill-filled.ensures.before },
-      ),
-    )).0; became = ((
-      (search rules, l.fill-filled.ensures.lengths),
-      (
-        none-labelled _ _ _ (passed a.kind a.extent a.a a.b a.k a.used a.headings.now a.pool.now s.requires.enterable s.requires.used_value (fits s))
-            _ l.fill-filled.ensures.answer c.in-Unlabelled.is,
-        record { numbers = refl; cells = l.fill-filled.ensures.before },
-      ),
-    )).1 }
+      );
+    }
 
 pub returns-in-OutOfRange : goal.returns-in-OutOfRange
 returns-in-OutOfRange c =
     let l = (goal.at.returns-in-OutOfRange c).After-fill-filled in
-    let s = (goal.at.After-fill-filled l).Start in
-    let a = s.args in record { lengths = ((
-      (search rules, l.fill-filled.ensures.lengths),
-      (
-        out_of_range _ _ _ (passed a.kind a.extent a.a a.b a.k a.used a.headings.now a.pool.now s.requires.enterable s.requires.used_value (fits s))
-            _ l.fill-filled.ensures.answer c.in-OutOfRange.is,
+    let s = (goal.at.returns-in-OutOfRange c).Start in
+    let a = s.args in
+    record {
+      lengths = (search rules, l.fill-filled.ensures.lengths);
+      became = (
+        out_of_range _ _ _ (passed a.kind a.extent a.a a.b a.k a.used a.headings.now a.pool.now s.requires.enterable s.requires.used_value (fits s)) _ l.fill-filled.ensures.answer c.in-OutOfRange.is,
         record { numbers = refl; cells = l.fill-filled.ensures.before },
-      ),
-    )).0; became = ((
-      (search rules, l.fill-filled.ensures.lengths),
-      (
-        out_of_range _ _ _ (passed a.kind a.extent a.a a.b a.k a.used a.headings.now a.pool.now s.requires.enterable s.requires.used_value (fits s))
-            _ l.fill-filled.ensures.answer c.in-OutOfRange.is,
-        record { numbers = refl; cells = l.fill-filled.ensures.before },
-      ),
-    )).1 }
+      );
+    }
 
 pub shape_of-headings : goal.shape_of-headings
 shape_of-headings c = search rules
@@ -96,18 +73,13 @@ shape_of-pool-in-Labelled c = search rules
 pub returns-in-Labelled : goal.returns-in-Labelled
 returns-in-Labelled c =
     let n = (goal.at.returns-in-Labelled c).After-finish in
-    let t = (goal.at.After-finish n).In-Labelled-1 in
-    let l = (goal.at.In-Labelled-1 t).After-struct_told-2-1 in
-    let s = (goal.at.After-struct_told-2-1 l).Start in
+    let l = (goal.at.returns-in-Labelled c).After-fill-filled in
+    let s = (goal.at.returns-in-Labelled c).Start in
     let a = s.args in
     let f = fits s in
     let p = f.period in
-    let d = f.distance in record { lengths = ((
-      (shape_of-headings c, shape_of-pool-in-Labelled c),
-      became a.kind a.extent a.a a.b a.k a.used a.headings.now a.pool.now s.requires.enterable s.requires.used_value f _
-          _ l.fill-filled.ensures.answer t.enum_told-in-Labelled-1.given.1 l.fill-filled.ensures.row _ _ _ (simp plain at n.finish.ensures),
-    )).0; became = ((
-      (shape_of-headings c, shape_of-pool-in-Labelled c),
-      became a.kind a.extent a.a a.b a.k a.used a.headings.now a.pool.now s.requires.enterable s.requires.used_value f _
-          _ l.fill-filled.ensures.answer t.enum_told-in-Labelled-1.given.1 l.fill-filled.ensures.row _ _ _ (simp plain at n.finish.ensures),
-    )).1 }
+    let d = f.distance in
+    record {
+      lengths = (shape_of-headings c, shape_of-pool-in-Labelled c);
+      became = became a.kind a.extent a.a a.b a.k a.used a.headings.now a.pool.now s.requires.enterable s.requires.used_value f _ _ l.fill-filled.ensures.answer c.in-Labelled.is l.fill-filled.ensures.row _ _ _ (simp plain at n.finish.ensures);
+    }

@@ -5,7 +5,6 @@ use native.Mathlib.Omega.{arith}
 use lib.ListN.{length-set}
 use Rattle.calendar.specs.Limits.{heading_length}
 use Rattle.row_entry.proofs.Cells.{four-stored}
-use borrow.Author.Rules.{rules}
 use Rattle.row_entry.proofs.write_heading.Goals as goal
 
 pub bounds-headings-at-2 : goal.bounds-headings-at-2
