@@ -31,15 +31,8 @@ pub returns-in-Refused : goal.returns-in-Refused
 returns-in-Refused c =
     let r = (goal.at.returns-in-Refused c).After-read-reading in
     let s = (goal.at.After-read-reading r).Start in
-    let a = s.args in record { lengths = ((
-      (search rules, search rules),
-      λ l many t. refused-named a.table.now a.k a.used l a.headings.now a.pool.now _ c.in-Refused.refusal many t r.entry_at-e.ensures
-          (subst (Says r) c.in-Refused.is r.read-reading.ensures),
-    )).0; entered = ((
-      (search rules, search rules),
-      λ l many t. refused-named a.table.now a.k a.used l a.headings.now a.pool.now _ c.in-Refused.refusal many t r.entry_at-e.ensures
-          (subst (Says r) c.in-Refused.is r.read-reading.ensures),
-    )).1 }
+    let a = s.args in record { lengths = (search rules, search rules); entered = (λ l many t. refused-named a.table.now a.k a.used l a.headings.now a.pool.now _ c.in-Refused.refusal many t r.entry_at-e.ensures
+          (subst (Says r) c.in-Refused.is r.read-reading.ensures)) }
 
 pub shape_of-headings : goal.shape_of-headings
 shape_of-headings c = search rules
@@ -54,12 +47,5 @@ returns-in-Named c =
     let r = (goal.at.In-Named-2 p).After-read-reading in
     let s = (goal.at.After-read-reading r).Start in
     let a = s.args in
-    let x = subst (Says r) p.in-Named.is r.read-reading.ensures in record { lengths = ((
-      (shape_of-headings c, shape_of-pool c),
-      λ l many t. entered a.table.now a.k a.used l a.headings.now _ a.pool.now _ _ x.0 n.enter_named.result many t s.requires.has-heading s.requires.at-most
-          r.entry_at-e.ensures x.1 (shape_of-pool c) (n.enter_named.ensures.became l x.0 many t x.2),
-    )).0; entered = ((
-      (shape_of-headings c, shape_of-pool c),
-      λ l many t. entered a.table.now a.k a.used l a.headings.now _ a.pool.now _ _ x.0 n.enter_named.result many t s.requires.has-heading s.requires.at-most
-          r.entry_at-e.ensures x.1 (shape_of-pool c) (n.enter_named.ensures.became l x.0 many t x.2),
-    )).1 }
+    let x = subst (Says r) p.in-Named.is r.read-reading.ensures in record { lengths = (shape_of-headings c, shape_of-pool c); entered = (λ l many t. entered a.table.now a.k a.used l a.headings.now _ a.pool.now _ _ x.0 n.enter_named.result many t s.requires.has-heading s.requires.at-most
+          r.entry_at-e.ensures x.1 (shape_of-pool c) (n.enter_named.ensures.became l x.0 many t x.2)) }
