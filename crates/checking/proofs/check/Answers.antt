@@ -10,14 +10,13 @@ use Rattle.calendar.specs.Table.{admitted}
 use Rattle.entries.specs.Entries.{begun_reply}
 use Rattle.checking.proofs.Table.{check-refused, check-admitted, admitted-claimed}
 use Rattle.checking.proofs.check.Goals as goal
-use Rattle.checking.proofs.check.Goals.{After-begin-begun, In-Entries, In-Refused-2}
+use Rattle.checking.proofs.check.Goals.{After-begin-begun, In-Entries}
 
 pub returns-in-Refused : goal.returns-in-Refused
 returns-in-Refused c =
-    let k = (goal.at.returns-in-Refused c).In-Refused-2 in
-    let b = (goal.at.In-Refused-2 k).After-begin-begun in
+    let b = (goal.at.returns-in-Refused c).After-begin-begun in
     let a = b.args in
-    rw c.number.ensures (check-refused a.table.now a.headings.now a.pool.now _ (sym b.begin-begun.ensures ∙ ap begun_reply k.in-Refused.is))
+    rw c.number.ensures (check-refused a.table.now a.headings.now a.pool.now _ (sym b.begin-begun.ensures ∙ ap begun_reply c.in-Refused.is))
 
 abbrev count : In-Entries → ℕ
 count c = c.in-Entries.n

@@ -30,7 +30,7 @@ pub loop-k-init : goal.loop-k-init
 loop-k-init c = checked-none _ _ _ _
 
 pub check_entry-judged-requires : goal.check_entry-judged-requires
-check_entry-judged-requires c = entry-due _ _ _ _ _ _ (begun (goal.at.check_entry-judged-requires c).At-loop-k).pre c.loop-k.invariant c.loop-k-test.true
+check_entry-judged-requires c = entry-due _ _ _ _ _ _ (begun (goal.at.check_entry-judged-requires c).At-loop-k).requires c.loop-k.invariant c.loop-k-test.true
 
 -- ---- what the check of the entry came to
 abbrev at-loop : After-entry → At-loop
@@ -44,54 +44,54 @@ Says c x =
     (judged l.loop-k.invariant.before (length a.pool.now - l.loop-k.used) (entry_at a.table.now l.loop-k.k)) x
 
 says : (c : After-entry) → Says c c.check_entry-judged.result
-says c = let i = (at-loop c).loop.invariant in c.check_entry-judged.ensures i.before i.count i.behind
+says c = let i = (at-loop c).loop-k.invariant in c.check_entry-judged.ensures i.before i.count i.behind
 
 abbrev refusing : After-number → After-entry
 refusing c = (goal.at.After-number c).After-check_entry-judged
 
 pub overflow_cast-result : goal.overflow_cast-result
-overflow_cast-result c = let l = at-loop (refusing c) in omega (arith, l.loop-k.invariant.at-most, (begun l).pre.at-most)
+overflow_cast-result c = let l = at-loop (refusing c) in omega (arith, l.loop-k.invariant.at-most, (begun l).requires.at-most)
 
 pub returns-in-Refused : goal.returns-in-Refused
 returns-in-Refused c =
     let e = refusing c in
     let l = at-loop e in
     rw c.number.ensures
-    (entry-refused _ _ _ _ _ _ (begun l).pre l.loop-k.invariant e.loop-k-test.taken c.in-Refused.refusal
+    (entry-refused _ _ _ _ _ _ (begun l).requires l.loop-k.invariant e.loop-k-test.true c.in-Refused.refusal
     (subst (Says e) c.in-Refused.is (says e)))
 
 -- ---- its heading or its row is wrong
 pub overflow_cast-result-in-Wrong : goal.overflow_cast-result-in-Wrong
-overflow_cast-result-in-Wrong c = let l = at-loop (goal.at.overflow_cast-result-in-Wrong c).After-check_entry-judged in omega (arith, l.loop-k.invariant.at-most, (begun l).pre.at-most)
+overflow_cast-result-in-Wrong c = let l = at-loop (goal.at.overflow_cast-result-in-Wrong c).After-check_entry-judged in omega (arith, l.loop-k.invariant.at-most, (begun l).requires.at-most)
 
 pub returns-in-Wrong : goal.returns-in-Wrong
 returns-in-Wrong c =
     let e = (goal.at.returns-in-Wrong c).After-check_entry-judged in
     let l = at-loop e in
-    entry-wrong _ _ _ _ _ _ (begun l).pre l.loop-k.invariant e.loop-k-test.true (subst (Says e) c.in-Wrong.is (says e))
+    entry-wrong _ _ _ _ _ _ (begun l).requires l.loop-k.invariant e.loop-k-test.true (subst (Says e) c.in-Wrong.is (says e))
 
 -- ---- it is right
 abbrev passing : In-Right → After-entry
 passing c = (goal.at.In-Right c).After-check_entry-judged
 
 pub overflow_step-k : goal.overflow_step-k
-overflow_step-k c = omega (arith, (passing c).before.loop-test.true)
+overflow_step-k c = omega (arith, (passing c).loop-k-test.true)
 
 pub loop-k-smaller : goal.loop-k-smaller
-loop-k-smaller c = omega (arith, (passing c).before.loop-test.true)
+loop-k-smaller c = omega (arith, (passing c).loop-k-test.true)
 
 pub loop-k-preserved : goal.loop-k-preserved
 loop-k-preserved c =
     let e = passing c in
     let l = at-loop e in
-    entry-right _ _ _ _ _ _ (begun l).pre l.loop-k.invariant e.loop-k-test.taken _ (subst (Says e) c.in-Right.is (says e))
+    entry-right _ _ _ _ _ _ (begun l).requires l.loop-k.invariant e.loop-k-test.true _ (subst (Says e) c.in-Right.is (says e))
 
 -- ---- all are
 pub rest_is_empty-requires : goal.rest_is_empty-requires
-rest_is_empty-requires c = (begun (goal.at.rest_is_empty-requires c).At-loop-k).pre.at-most
+rest_is_empty-requires c = (begun (goal.at.rest_is_empty-requires c).At-loop-k).requires.at-most
 
 pub overflow_cast-result-else-rest_is_empty : goal.overflow_cast-result-else-rest_is_empty
-overflow_cast-result-else-rest_is_empty c = omega (arith, (begun (goal.at.overflow_cast-result-else-rest_is_empty c).At-loop-k).pre.at-most)
+overflow_cast-result-else-rest_is_empty c = omega (arith, (begun (goal.at.overflow_cast-result-else-rest_is_empty c).At-loop-k).requires.at-most)
 
 -- by the test of the rest
 verdict : (c : After-rest_is_empty) → let a = (begun (goal.at.After-rest_is_empty c).At-loop-k).args in

@@ -21,4 +21,3 @@ invariant-loop-k l = Checked l.table l.n l.headings l.pool l.used l.k
 
 abbrev pub decreases-loop-k : goal.decreases-loop-k
 decreases-loop-k l = l.n - l.k
-

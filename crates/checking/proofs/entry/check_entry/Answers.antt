@@ -15,7 +15,7 @@ use Rattle.entries.specs.declared.Reading.{Reading}
 use Rattle.checking.specs.Claims.{Judges}
 use Rattle.checking.proofs.Judging.{read-judged}
 use Rattle.checking.proofs.entry.check_entry.Goals as goal
-use Rattle.checking.proofs.entry.check_entry.Goals.{After-read-reading, In-Named-2, Start}
+use Rattle.checking.proofs.entry.check_entry.Goals.{After-read-reading, Start}
 
 -- what is read of the entry
 abbrev Says : After-read-reading → Reading → Type 0
@@ -23,10 +23,9 @@ Says c x = Reads c.args.k (Table.named c.args.k (entry_of c.entry_at-e.result)) 
 
 pub check_named-requires : goal.check_named-requires
 check_named-requires c =
-    let p = (goal.at.check_named-requires c).In-Named-2 in
-    let r = (goal.at.In-Named-2 p).After-read-reading in
+    let r = (goal.at.check_named-requires c).After-read-reading in
     let s = (goal.at.After-read-reading r).Start in
-    let n = subst (Says r) p.in-Named.is r.read-reading.ensures in
+    let n = subst (Says r) c.in-Named.is r.read-reading.ensures in
     record {
       rows = s.requires.rows;
       names = (n.0, n.2);
@@ -46,11 +45,10 @@ returns-in-Refused c =
 
 pub returns-in-Named : goal.returns-in-Named
 returns-in-Named c =
-    let p = (goal.at.returns-in-Named c).In-Named-2 in
-    let r = (goal.at.In-Named-2 p).After-read-reading in
+    let r = (goal.at.returns-in-Named c).After-read-reading in
     let s = (goal.at.After-read-reading r).Start in
     let a = s.args in
-    let n = subst (Says r) p.in-Named.is r.read-reading.ensures in
+    let n = subst (Says r) c.in-Named.is r.read-reading.ensures in
     λ l many t.
     let e =
     read-judged l a.k (length a.pool.now - a.used) a.table.now (entry_of r.entry_at-e.result) many r.entry_at-e.ensures

@@ -44,11 +44,11 @@ start c = (goal.at.After-operand_before-b c).Start
 
 entered : (c : After-operand_before-b) → let s = start c in
     Enterable s.args.named.kind c.operand_before-a.result c.operand_before-b.result s.args.k s.args.used
-    (left_by s.pre.rows.0 s.args.headings.now) s.args.pool.now
+    (left_by s.requires.rows.0 s.args.headings.now) s.args.pool.now
 entered c =
     let s = start c in
     let a = s.args in
-    let p = s.pre in
+    let p = s.requires in
     J.entered p.rows.0 a.k a.headings.now a.pool.now a.used p.rows.1 p.rows.2 p.has-heading p.at-most a.named p.names.0 p.names.1
     c.operand_before-a.result c.operand_before-b.result c.operand_before-a.ensures c.operand_before-b.ensures
 
@@ -59,112 +59,16 @@ pub check_in-checked-requires : goal.check_in-checked-requires
 check_in-checked-requires c =
     let s = start c in
     let e = entered c in
-    let f = s.pre.rows.2.fits in record { numbers = ((
-      e.numbers,
-      (
-        e.sounds,
-        (
-          e.counted,
-          (
-            record { period = e.a-before.period; ends = omega (arith, e.a-before.ends, f) },
-            (
-              record { period = e.b-before.period; ends = omega (arith, e.b-before.ends, f) },
-              (s.pre.at-most, number-limits (length s.args.pool.now - s.args.used) (omega (arith, s.pre.at-most))),
-            ),
-          ),
-        ),
-      ),
-    )).0; sound_first = ((
-      e.numbers,
-      (
-        e.sounds,
-        (
-          e.counted,
-          (
-            record { period = e.a-before.period; ends = omega (arith, e.a-before.ends, f) },
-            (
-              record { period = e.b-before.period; ends = omega (arith, e.b-before.ends, f) },
-              (s.pre.at-most, number-limits (length s.args.pool.now - s.args.used) (omega (arith, s.pre.at-most))),
-            ),
-          ),
-        ),
-      ),
-    )).1; counted_first = ((
-      e.numbers,
-      (
-        e.sounds,
-        (
-          e.counted,
-          (
-            record { period = e.a-before.period; ends = omega (arith, e.a-before.ends, f) },
-            (
-              record { period = e.b-before.period; ends = omega (arith, e.b-before.ends, f) },
-              (s.pre.at-most, number-limits (length s.args.pool.now - s.args.used) (omega (arith, s.pre.at-most))),
-            ),
-          ),
-        ),
-      ),
-    )).2; before = ((
-      e.numbers,
-      (
-        e.sounds,
-        (
-          e.counted,
-          (
-            record { period = e.a-before.period; ends = omega (arith, e.a-before.ends, f) },
-            (
-              record { period = e.b-before.period; ends = omega (arith, e.b-before.ends, f) },
-              (s.pre.at-most, number-limits (length s.args.pool.now - s.args.used) (omega (arith, s.pre.at-most))),
-            ),
-          ),
-        ),
-      ),
-    )).3; before_2 = ((
-      e.numbers,
-      (
-        e.sounds,
-        (
-          e.counted,
-          (
-            record { period = e.a-before.period; ends = omega (arith, e.a-before.ends, f) },
-            (
-              record { period = e.b-before.period; ends = omega (arith, e.b-before.ends, f) },
-              (s.pre.at-most, number-limits (length s.args.pool.now - s.args.used) (omega (arith, s.pre.at-most))),
-            ),
-          ),
-        ),
-      ),
-    )).4; pool_len_bound = ((
-      e.numbers,
-      (
-        e.sounds,
-        (
-          e.counted,
-          (
-            record { period = e.a-before.period; ends = omega (arith, e.a-before.ends, f) },
-            (
-              record { period = e.b-before.period; ends = omega (arith, e.b-before.ends, f) },
-              (s.pre.at-most, number-limits (length s.args.pool.now - s.args.used) (omega (arith, s.pre.at-most))),
-            ),
-          ),
-        ),
-      ),
-    )).5; pos_bound = ((
-      e.numbers,
-      (
-        e.sounds,
-        (
-          e.counted,
-          (
-            record { period = e.a-before.period; ends = omega (arith, e.a-before.ends, f) },
-            (
-              record { period = e.b-before.period; ends = omega (arith, e.b-before.ends, f) },
-              (s.pre.at-most, number-limits (length s.args.pool.now - s.args.used) (omega (arith, s.pre.at-most))),
-            ),
-          ),
-        ),
-      ),
-    )).6 }
+    let f = s.requires.rows.2.fits in
+    record {
+      numbers = e.numbers;
+      sound_first = e.sounds;
+      counted_first = e.counted;
+      before = record { period = e.a-before.period; ends = omega (arith, e.a-before.ends, f) };
+      before_2 = record { period = e.b-before.period; ends = omega (arith, e.b-before.ends, f) };
+      pool_len_bound = s.requires.at-most;
+      pos_bound = number-limits (length s.args.pool.now - s.args.used) (omega (arith, s.requires.at-most));
+    }
 
 -- what they come to
 checks : (c : After-check_in-checked) → let s = start (goal.at.After-check_in-checked c).After-operand_before-b in let a = s.args in
@@ -172,7 +76,7 @@ checks : (c : After-check_in-checked) → let s = start (goal.at.After-check_in-
     ≡ admission (over a.named.kind a.pool.now c.operand_before-a.result c.operand_before-b.result) (length a.pool.now - a.used)
 checks c =
     let s = start (goal.at.After-check_in-checked c).After-operand_before-b in
-    let u : length s.args.pool.now - s.args.used < 2 ^ 63 = omega (arith, s.pre.at-most) in
+    let u : length s.args.pool.now - s.args.used < 2 ^ 63 = omega (arith, s.requires.at-most) in
     simp plain at c.check_in-checked.ensures
 
 -- a refusal of theirs is that of the operation
@@ -184,7 +88,7 @@ returns-in-Refused c =
     let a = s.args in
     let refused = refused-before _ _ (number_of c.in-Refused.n) (sym (checks t) ∙ ap checked_reply c.in-Refused.is) in
     λ l o many behind names.
-    let same = J.over-rows l a.k a.headings.now a.pool.now a.used many behind s.pre.has-heading s.pre.at-most a.named o names
+    let same = J.over-rows l a.k a.headings.now a.pool.now a.used many behind s.requires.has-heading s.requires.at-most a.named o names
     b.operand_before-a.result b.operand_before-b.result b.operand_before-a.ensures b.operand_before-b.ensures in
     ap (λ (p : Operation Row). converted p (length a.pool.now - a.used)) (sym same) ∙ refused
 
@@ -192,109 +96,71 @@ returns-in-Refused c =
 abbrev told : In-Passed → After-check_in-checked
 told c = (goal.at.In-Passed c).After-check_in-checked
 
+abbrev entering : In-Passed → After-operand_before-b
+entering c = (goal.at.In-Passed c).After-operand_before-b
+
 abbrev extent : In-Passed → Extent
 extent c = c.in-Passed.extent
 
 fits : (c : In-Passed) → ExtentFits (extent c)
 fits c = search rules
 
-admits : (c : In-Passed) → let a = (start (told c).before).args in
-    admission (over a.named.kind a.pool.now (told c).before.before.operand-before.result (told c).before.operand-before2.result) (length a.pool.now - a.used)
+admits : (c : In-Passed) → let a = (start (entering c)).args in
+    admission (over a.named.kind a.pool.now (entering c).operand_before-a.result (entering c).operand_before-b.result) (length a.pool.now - a.used)
     ≡ answer (extent c)
 admits c = sym (checks (told c)) ∙ ap checked_reply c.in-Passed.is
 
 pub claim_of-claim-requires : goal.claim_of-claim-requires
 claim_of-claim-requires c =
-    let b = (told c).before in
+    let b = entering c in
     let s = start b in
     let a = s.args in
-    let p = s.pre in
-    let x = extent c in record { heading_length_in_bounds = ((
-      p.has-heading,
-      (
-        (p.rows.2.fits, p.at-most),
-        (
-          J.period-limits p.rows.0 a.k a.headings.now a.pool.now a.used p.rows.1 p.rows.2 p.has-heading p.at-most a.named p.names.0 p.names.1
-              b.before.operand_before-a.result b.operand_before-b.result b.before.operand_before-a.ensures b.operand_before-b.ensures x (admits c) (fits c),
-          J.distance-limits p.rows.0 a.k a.headings.now a.pool.now a.used p.rows.1 p.rows.2 p.has-heading p.at-most a.named p.names.0 p.names.1
-              b.before.operand_before-a.result b.operand_before-b.result b.before.operand_before-a.ensures b.operand_before-b.ensures x (admits c) (fits c),
-        ),
-      ),
-    )).0; used_in_bounds = ((
-      p.has-heading,
-      (
-        (p.rows.2.fits, p.at-most),
-        (
-          J.period-limits p.rows.0 a.k a.headings.now a.pool.now a.used p.rows.1 p.rows.2 p.has-heading p.at-most a.named p.names.0 p.names.1
-              b.before.operand_before-a.result b.operand_before-b.result b.before.operand_before-a.ensures b.operand_before-b.ensures x (admits c) (fits c),
-          J.distance-limits p.rows.0 a.k a.headings.now a.pool.now a.used p.rows.1 p.rows.2 p.has-heading p.at-most a.named p.names.0 p.names.1
-              b.before.operand_before-a.result b.operand_before-b.result b.before.operand_before-a.ensures b.operand_before-b.ensures x (admits c) (fits c),
-        ),
-      ),
-    )).1; pos_bound = ((
-      p.has-heading,
-      (
-        (p.rows.2.fits, p.at-most),
-        (
-          J.period-limits p.rows.0 a.k a.headings.now a.pool.now a.used p.rows.1 p.rows.2 p.has-heading p.at-most a.named p.names.0 p.names.1
-              b.before.operand_before-a.result b.operand_before-b.result b.before.operand_before-a.ensures b.operand_before-b.ensures x (admits c) (fits c),
-          J.distance-limits p.rows.0 a.k a.headings.now a.pool.now a.used p.rows.1 p.rows.2 p.has-heading p.at-most a.named p.names.0 p.names.1
-              b.before.operand_before-a.result b.operand_before-b.result b.before.operand_before-a.ensures b.operand_before-b.ensures x (admits c) (fits c),
-        ),
-      ),
-    )).2; pos_bound_2 = ((
-      p.has-heading,
-      (
-        (p.rows.2.fits, p.at-most),
-        (
-          J.period-limits p.rows.0 a.k a.headings.now a.pool.now a.used p.rows.1 p.rows.2 p.has-heading p.at-most a.named p.names.0 p.names.1
-              b.before.operand_before-a.result b.operand_before-b.result b.before.operand_before-a.ensures b.operand_before-b.ensures x (admits c) (fits c),
-          J.distance-limits p.rows.0 a.k a.headings.now a.pool.now a.used p.rows.1 p.rows.2 p.has-heading p.at-most a.named p.names.0 p.names.1
-              b.before.operand_before-a.result b.operand_before-b.result b.before.operand_before-a.ensures b.operand_before-b.ensures x (admits c) (fits c),
-        ),
-      ),
-    )).3 }
+    let p = s.requires in
+    let x = extent c in
+    record {
+      heading_length_in_bounds = p.has-heading;
+      used_in_bounds = (p.rows.2.fits, p.at-most);
+      pos_bound = J.period-limits p.rows.0 a.k a.headings.now a.pool.now a.used p.rows.1 p.rows.2 p.has-heading p.at-most a.named p.names.0 p.names.1
+          b.operand_before-a.result b.operand_before-b.result b.operand_before-a.ensures b.operand_before-b.ensures x (admits c) (fits c);
+      pos_bound_2 = J.distance-limits p.rows.0 a.k a.headings.now a.pool.now a.used p.rows.1 p.rows.2 p.has-heading p.at-most a.named p.names.0 p.names.1
+          b.operand_before-a.result b.operand_before-b.result b.operand_before-a.ensures b.operand_before-b.ensures x (admits c) (fits c);
+    }
 
 pub operand_at-r-requires : goal.operand_at-r-requires
-operand_at-r-requires c = (start (told (goal.at.operand_at-r-requires c).In-Passed).before).requires.has-heading
+operand_at-r-requires c = (start (entering (goal.at.operand_at-r-requires c).In-Passed)).requires.has-heading
 
 pub weigh-requires : goal.weigh-requires
 weigh-requires c =
     let m = (goal.at.weigh-requires c).After-claim_of-claim in
     let t = (goal.at.After-claim_of-claim m).In-Passed in
-    let b = (told t).before in
+    let b = entering t in
     let s = start b in
     let a = s.args in
-    let p = s.pre in record { weighable = ((
-      J.weighable p.rows.0 a.k a.headings.now a.pool.now a.used p.rows.1 p.rows.2 p.has-heading p.at-most a.named p.names.0 p.names.1
-          b.before.operand_before-a.result b.operand_before-b.result b.before.operand_before-a.ensures b.operand_before-b.ensures (extent t) (admits t) (fits t),
-      λ e.
+    let p = s.requires in
+    record {
+      weighable = J.weighable p.rows.0 a.k a.headings.now a.pool.now a.used p.rows.1 p.rows.2 p.has-heading p.at-most a.named p.names.0 p.names.1
+          b.operand_before-a.result b.operand_before-b.result b.operand_before-a.ensures b.operand_before-b.ensures (extent t) (admits t) (fits t);
+      pos_bound = λ e.
           let stood = claim-stands a.headings.now a.pool.now a.k a.used p.has-heading (m.claim_of-claim.ensures.test.0 e).stands m.claim_of-claim.result.end (m.claim_of-claim.ensures.ends e) in
-          subst (λ (r : Operand). (pos 0 ≤ℤ r.period) × Stands a.pool.now r) (sym c.Operand-at.ensures) (simp ints (omega arith), stood),
-    )).0; pos_bound = ((
-      J.weighable p.rows.0 a.k a.headings.now a.pool.now a.used p.rows.1 p.rows.2 p.has-heading p.at-most a.named p.names.0 p.names.1
-          b.before.operand_before-a.result b.operand_before-b.result b.before.operand_before-a.ensures b.operand_before-b.ensures (extent t) (admits t) (fits t),
-      λ e.
-          let stood = claim-stands a.headings.now a.pool.now a.k a.used p.has-heading (m.claim_of-claim.ensures.test.0 e).stands m.claim_of-claim.result.end (m.claim_of-claim.ensures.ends e) in
-          subst (λ (r : Operand). (pos 0 ≤ℤ r.period) × Stands a.pool.now r) (sym c.Operand-at.ensures) (simp ints (omega arith), stood),
-    )).1 }
+          subst (λ (r : Operand). (pos 0 ≤ℤ r.period) × Stands a.pool.now r) (sym c.operand_at-r.ensures) (simp ints (omega arith), stood);
+    }
 
 pub returns-in-Passed : goal.returns-in-Passed
 returns-in-Passed c =
     let r = (goal.at.returns-in-Passed c).After-operand_at-r in
     let m = (goal.at.After-operand_at-r r).After-claim_of-claim in
     let t = (goal.at.After-claim_of-claim m).In-Passed in
-    let b = (told t).before in
+    let b = entering t in
     let s = start b in
     let a = s.args in
-    let p = s.pre in
+    let p = s.requires in
     let ok = m.claim_of-claim.result.ok in
     let end = m.claim_of-claim.result.end in
-    let o' = over a.named.kind a.pool.now b.before.operand_before-a.result b.operand_before-b.result in
+    let o' = over a.named.kind a.pool.now b.operand_before-a.result b.operand_before-b.result in
     let is : c.weigh.result ≡ weighed o' (row_at a.headings.now a.pool.now a.k) ok end =
-    c.weigh.ensures ∙ ap (λ (x : Operand). weighed o' (row_in a.pool.now x) ok end) r.Operand-at.ensures in
+    c.weigh.ensures ∙ ap (λ (x : Operand). weighed o' (row_in a.pool.now x) ok end) r.operand_at-r.ensures in
     λ l o many behind names.
     subst (Judges a.k a.used a.headings.now a.pool.now (converted (at_rows l o) (length a.pool.now - a.used))) (sym is)
     (J.judged-entry l a.k a.headings.now a.pool.now a.used many behind p.has-heading p.at-most a.named o names
-    b.before.operand_before-a.result b.operand_before-b.result b.before.operand_before-a.ensures b.operand_before-b.ensures (extent t) (admits t) (fits t)
+    b.operand_before-a.result b.operand_before-b.result b.operand_before-a.ensures b.operand_before-b.ensures (extent t) (admits t) (fits t)
     ok end m.claim_of-claim.ensures.test m.claim_of-claim.ensures.ends)

@@ -26,10 +26,10 @@ abbrev tested : After-shared_slice_known-3-1 → Else-not-row
 tested c = (goal.at.After-shared_slice_known-3-1 c).Else-not-row
 
 abbrev start : After-shared_slice_known-3-1 → Start
-start c = (tested c).before.before.before.before
+start c = (goal.at.After-shared_slice_known-3-1 c).Start
 
 stands : (c : After-shared_slice_known-3-1) → let a = (start c).args in row_stands a.headings.now a.pool.now a.k a.used ≡ true
-stands c = sym (tested c).before.before.row-stands.ensures.0 ∙ not-false _ (tested c).if1.false
+stands c = sym (tested c).row_stands-row.ensures.test ∙ not-false _ (tested c).if-not-row.false
 
 pub is_multiple-requires : goal.is_multiple-requires
 is_multiple-requires c =
@@ -51,17 +51,12 @@ distance_read c = let d = (fits (start c)).distance in simp plain at c.number-di
 pub returns : goal.returns
 returns c =
     let b = (goal.at.returns c).After-shared_slice_known-3-1 in
-    let ok = not-false _ (tested b).if1.false in
-    let m = c.is_multiple.ensures in record { test = ((
-      (
+    let ok = not-false _ (tested b).if-not-row.false in
+    let m = c.is_multiple.ensures in
+    record {
+      test = (
         λ e. let t = m.0 e in record { stands = stands b; turns = (t.0, sym (period-read b) ∙ t.1, sym (distance_read b) ∙ t.2) },
         λ h. let t = h.turns in m.1 (t.0, period-read b ∙ t.1, distance_read b ∙ t.2),
-      ),
-      λ e. (tested b).before.before.row-stands.ensures.1 ok,
-    )).0; ends = ((
-      (
-        λ e. let t = m.0 e in record { stands = stands b; turns = (t.0, sym (period-read b) ∙ t.1, sym (distance_read b) ∙ t.2) },
-        λ h. let t = h.turns in m.1 (t.0, period-read b ∙ t.1, distance_read b ∙ t.2),
-      ),
-      λ e. (tested b).before.before.row-stands.ensures.1 ok,
-    )).1 }
+      );
+      ends = λ e. (tested b).row_stands-row.ensures.ends ok;
+    }

@@ -2,7 +2,6 @@
 -- Assumes nothing.
 use mathlib.Core.Path.{refl}
 use native.Mathlib.Omega.{arith}
-use borrow.Author.Rules.{rules}
 use Rattle.granules.proofs.Tests.{true≢false, eqb-iff}
 use Rattle.checking.proofs.Multiples.{product-fits, other_fits, multiple-of, multiple-period, multiple-distance}
 use Rattle.checking.proofs.entry.is_multiple.Goals as goal

@@ -1,10 +1,8 @@
 -- `checking::entry::judge` meets its contract.
 -- Assumes nothing.
-use mathlib.Core.Path.{◌≡◌, refl, sym, ◌∙◌, ap, ap₂}
-use mathlib.Core.Bool.{Bool, true, false}
-use borrow.Author.Rules.{rules}
+use mathlib.Core.Path.{sym, ap, ap₂}
+use mathlib.Core.Bool.{Bool}
 use Rattle.match_shared.specs.declared.Matched.{Matched}
-use Rattle.match_shared.specs.declared.Matched.TheVariants.{Same, Different, Unlabelled, OutOfRange}
 use Rattle.checking.specs.Weighing.{judged_as}
 use Rattle.checking.proofs.entry.judge.Goals as goal
 

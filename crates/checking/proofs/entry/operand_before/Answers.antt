@@ -11,7 +11,7 @@ pub returns-then-j-k : goal.returns-then-j-k
 returns-then-j-k c =
     let s = (goal.at.returns-then-j-k c).Start in
     let a = s.args in
-    c.Operand-at.ensures ∙ operand-among a.headings.now a.k a.j (omega arith)
+    c.operand_at.ensures ∙ operand-among a.headings.now a.k a.j (omega arith)
 
 pub returns-else-j-k : goal.returns-else-j-k
 returns-else-j-k c =

@@ -62,15 +62,12 @@ compare-without-requires c =
     let e = (goal.at.compare-without-requires c).Else-operands-lt1 in
     let s = (goal.at.Else-operands-lt1 e).Start in
     let a = s.args in
-    let w = s.requires.weighable in record { fillable = ((
-      w.fillable,
-      claimed a.kind a.extent a.a a.b a.pool.now w (fits s).period (fits s).span a.a w.a-period
-          (first-stands a.kind a.extent a.a a.b a.pool.now w (fits s).period (fits s).span (omega (arith, e.operands.ensures, e.if-operands-lt1.false))),
-    )).0; claimed = ((
-      w.fillable,
-      claimed a.kind a.extent a.a a.b a.pool.now w (fits s).period (fits s).span a.a w.a-period
-          (first-stands a.kind a.extent a.a a.b a.pool.now w (fits s).period (fits s).span (omega (arith, e.operands.ensures, e.if-operands-lt1.false))),
-    )).1 }
+    let w = s.requires.weighable in
+    record {
+      fillable = w.fillable;
+      claimed = claimed a.kind a.extent a.a a.b a.pool.now w (fits s).period (fits s).span a.a w.a-period
+          (first-stands a.kind a.extent a.a a.b a.pool.now w (fits s).period (fits s).span (omega (arith, e.operands.ensures, e.if-operands-lt1.false)));
+    }
 
 pub returns : goal.returns
 returns c =
