@@ -1,8 +1,8 @@
 -- `alter_ends::in_limits` meets its contract: both ends of the working row are within the limits.
 -- Assumes nothing.
 use borrow.Author.Rules.{sfits_of}
-use mathlib.Core.Path.{◌≡◌, sym, ◌∙◌, ap}
-use mathlib.Core.Bool.{◌&&◌}
+use mathlib.Core.Path.{◌≡◌, refl, sym, ◌∙◌, ap}
+use mathlib.Core.Bool.{true, ◌&&◌}
 use mir.Facts.{to_z-of_z}
 use mir.Syntax.{w64}
 use mir.Val.{SFits}
@@ -15,7 +15,7 @@ use Rattle.kinds.specs.Stands.{row_in}
 use Rattle.alter_granules.specs.Given.{altering}
 use Rattle.alter_ends.proofs.Ending.{limits_of}
 use Rattle.alter_ends.proofs.in_limits.Goals as goal
-use Rattle.alter_ends.proofs.in_limits.Goals.{After-end_labels-ends, After-in_range, After-struct_told-2-1}
+use Rattle.alter_ends.proofs.in_limits.Goals.{After-end_labels-ends, After-in_range}
 
 abbrev o : After-end_labels-ends → Operation Row
 o c = let r = c.args in altering r.by (row_in r.pool.now r.a) (row_in r.pool.now r.b)
@@ -37,10 +37,12 @@ returns-then-not-in_range c =
 
 pub returns : goal.returns
 returns c =
-    let d = (goal.at.returns c).After-struct_told-2-1 in
-    let k = (goal.at.After-struct_told-2-1 d).After-in_range in
+    let k = (goal.at.returns c).After-in_range in
     let e = (goal.at.After-in_range k).After-end_labels-ends in
-    let f : SFits w64 e.end_labels-ends.result.last = sfits_of d.struct_told-2-1.given.1.0.1 in
-    c.in_range-2.ensures
-    ∙ ap in_range (to_z-of_z {w = w64} f)
-    ∙ sym (decided e ∙ ap (λ b. b && in_range e.end_labels-ends.result.last) (sym (first-is k) ∙ d.if-not-in_range.false))
+    let d = decided e in
+    let last : SFits w64 e.end_labels-ends.result.last = sfits_of k.struct_told-1.given.1.0.1 in
+    let first : SFits w64 e.end_labels-ends.result.first = sfits_of k.struct_told-1.given.0.1 in
+    let f = to_z-of_z {w = w64} first in
+    let l = to_z-of_z {w = w64} last in
+    let h : (true && in_range e.end_labels-ends.result.last) ≡ in_range e.end_labels-ends.result.last = refl in
+    cc (d, f, l, h)
