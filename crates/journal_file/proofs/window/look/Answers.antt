@@ -15,7 +15,7 @@ returns-in-Body g c =
     let k : c.in-Ok.k ≤ c.args.n = c.in-Ok.ensures in
     let w : c.in-Ok.k ≤ length c.fill_at.new.bytes = search rules in
     let h : length (take c.in-Ok.k c.fill_at.new.bytes) ≤ 8192 = omega (arith, length-take-le c.in-Ok.k c.fill_at.new.bytes w, k, c.requires.0) in
-    (e.1.0, omega (arith, e.0, e.1.1, h, c.requires.1))
+    (e.1, omega (arith, e.0, e.2, h, c.requires.1))
 
 pub returns-in-Before : goal.returns-in-Before
 returns-in-Before g c = step-before _ _ (sym c.step_back-step.ensures ∙ c.in-Before.is)
