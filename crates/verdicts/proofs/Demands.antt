@@ -1,10 +1,9 @@
 -- What the check of finished lists decides, by what the table means.
 -- Assumes nothing.
-use mathlib.Core.Path.{◌≡◌, refl, sym, ◌∙◌, ap}
+use mathlib.Core.Path.{◌≡◌, refl}
 use mathlib.Core.Logic.{◌↔◌}
 use mathlib.Core.List.{List}
 use Prim.Native.Nat.{ℕ, ◌/◌}
-use native.Mathlib.Omega.{arith}
 use lib.IntN.{ℤ}
 use lib.ListN.{length}
 use Rattle.calendar.specs.Limits.{heading_length}
@@ -14,7 +13,7 @@ use Rattle.calendar.specs.Outcome.Outcome.{rows}
 use Rattle.calendar.specs.Stored.{headings_after, pool_after}
 use Rattle.algebra.specs.TableMeaning.{Meant, TableReply, TableMeans}
 use Rattle.algebra.specs.TableMeaning.TableReply.{refused_at, means}
-use Rattle.algebra.specs.Agrees.{RepresentsAll, Agrees}
+use Rattle.algebra.specs.Agrees.{Agrees}
 use Rattle.algebra.proofs.Demand2 as definitions
 use Rattle.conversion.specs.Shows.{ShowsRows}
 use Rattle.conversion.specs.Left.{Left}

@@ -14,14 +14,13 @@ use Rattle.calendar.specs.Limits.{heading_length}
 use Rattle.calendar.specs.Meaning.{Row, bottom_row}
 use Rattle.calendar.specs.Granules.{granules}
 use Rattle.calendar.specs.Stored.{joined}
-use Rattle.granules.proofs.Sound.{sound-valid}
 use Rattle.granules.proofs.Equal.{least-row-unique}
 use Rattle.algebra.specs.TableMeaning.{Meant, nothing}
 use Rattle.algebra.specs.Represents.{Represents, CountsLabels}
 use Rattle.algebra.specs.Agrees.{RepresentsAll}
 use Rattle.algebra.proofs.Demand2.{represents-length, represents-at}
 use Rattle.algebra.proofs.Stored.{get_or-mem, joined_length}
-use Rattle.conversion.specs.Shows.{start_at, period_at, distance_at, granules_at, end_at, row_at}
+use Rattle.conversion.specs.Shows.{start_at, period_at, distance_at, granules_at, row_at}
 use Rattle.conversion.proofs.Headings.{first-left, next-left}
 use Rattle.conversion.proofs.LeftRows.{counts-labels, labels-counted}
 use Rattle.kinds.specs.declared.Operand.{Operand}

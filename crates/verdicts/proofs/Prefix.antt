@@ -21,7 +21,7 @@ use Rattle.granules.proofs.Replies.{require-answer}
 use Rattle.algebra.specs.TableMeaning.{Meant, EntryJudged, Entries, TableReply, TableMeans}
 use Rattle.algebra.specs.TableMeaning.Entries.{done, stop, next}
 use Rattle.algebra.specs.TableMeaning.TableReply.{refused_at, means}
-use Rattle.algebra.specs.TableMeaning.TableMeans.{not-admitted, entries as by_entries}
+use Rattle.algebra.specs.TableMeaning.TableMeans.{entries as by_entries}
 use Rattle.algebra.specs.Agrees.{RepresentsAll, Agrees}
 use Rattle.algebra.proofs.Steps.{after_entry, entries-zero, entries-suc, after_table, outcome-is}
 use Rattle.algebra.proofs.Demand2.{demand-2, demand-2-only}

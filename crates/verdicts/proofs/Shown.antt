@@ -1,12 +1,12 @@
 -- Lists that show the calendars of a table's entries are the only ones of their lengths that do.
 -- Assumes nothing.
-use mathlib.Core.Path.{◌≡◌, refl, sym, ◌∙◌, ap, ap₂, subst}
+use mathlib.Core.Path.{◌≡◌, refl, sym, ◌∙◌, ap, subst}
 use mathlib.Core.Logic.{◌⊎◌, inl, inr, ⊎_map}
 use mathlib.Core.List.{List}
 use Prim.Native.Nat.{ℕ, zero, suc, ◌+◌, ◌-◌, ◌*◌, ◌/◌, ◌%◌, ◌≤◌, ◌<◌}
 use native.Mathlib.Omega.{arith}
 use lib.IntN.{ℤ}
-use lib.ListN.{length, get_or, take, drop}
+use lib.ListN.{length, get_or, drop}
 use lib.Seq.{get_or-take, get_or-drop, ext_get_or}
 use Rattle.calendar.specs.Limits.{heading_length}
 use Rattle.calendar.specs.Meaning.{Row, empty}
@@ -14,7 +14,6 @@ use Rattle.calendar.specs.Granules.{granules}
 use Rattle.granules.proofs.Tests.{decided, ltb_iff}
 use Rattle.granules.proofs.Equal.{least-row-unique}
 use Rattle.algebra.specs.TableMeaning.{Meant, nothing}
-use Rattle.algebra.specs.Represents.{CountsLabels}
 use Rattle.conversion.specs.Shows.{start_at, period_at, distance_at, granules_at, end_at, row_at, ShowsRows}
 use Rattle.conversion.specs.declared.Conversion.{Conversion}
 use Rattle.conversion.proofs.LeftRows.{labels-counted}

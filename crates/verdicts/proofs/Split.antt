@@ -1,14 +1,12 @@
 -- Rows and the calendars that they stand for, with one more behind.
 -- Assumes nothing.
-use mathlib.Core.Path.{◌≡◌, refl, sym, ◌∙◌, ap, ap₂, subst}
+use mathlib.Core.Path.{◌≡◌, refl, sym, ◌∙◌, ap}
 use mathlib.Core.List.{List, [], ◌∷◌, ◌++◌}
-use Prim.Native.Nat.{ℕ, suc}
 use native.Mathlib.Omega.{arith}
 use lib.ListN.{length, take, drop, length-append}
 use lib.Seq.{take_at, drop_at}
 use Rattle.calendar.specs.Meaning.{Row}
 use Rattle.algebra.specs.TableMeaning.{Meant}
-use Rattle.algebra.specs.Represents.{Represents}
 use Rattle.algebra.specs.Agrees.{RepresentsAll}
 
 -- calendars of rows that end with r
