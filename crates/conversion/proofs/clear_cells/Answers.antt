@@ -11,9 +11,6 @@ use Rattle.conversion.proofs.clear_cells.Goals as goal
 pub loop-i-init : goal.loop-i-init
 loop-i-init c = made_none empty _ _ (omega arith)
 
-pub offset_bounds-pool-i : goal.offset_bounds-pool-i
-offset_bounds-pool-i c = omega (arith, made-length empty _ _ _ _ c.loop-i.invariant, c.well-formed.0.1)
-
 pub loop-i-smaller : goal.loop-i-smaller
 loop-i-smaller c = omega (arith, made-length empty _ _ _ _ c.loop-i.invariant)
 

@@ -10,9 +10,6 @@ use Rattle.conversion.proofs.clear_headings.Goals as goal
 pub loop-i-init : goal.loop-i-init
 loop-i-init c = made_none 0 _ _ (omega arith)
 
-pub offset_bounds-headings-i : goal.offset_bounds-headings-i
-offset_bounds-headings-i c = omega (arith, made-length 0 _ _ _ _ c.loop-i.invariant, c.well-formed.0.1)
-
 pub loop-i-smaller : goal.loop-i-smaller
 loop-i-smaller c = omega (arith, made-length 0 _ _ _ _ c.loop-i.invariant)
 
