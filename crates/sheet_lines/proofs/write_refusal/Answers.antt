@@ -5,12 +5,6 @@ use Rattle.sheet_lines.proofs.Lines.{refusal-line}
 use borrow.Author.Rules.{rules}
 use Rattle.sheet_lines.proofs.write_refusal.Goals as goal
 
-slice-aggregate-write-word : tie.Need-slice-aggregate-write-word
-slice-aggregate-write-word c = search rules
-
-slice-aggregate-write-word-2 : tie.Need-slice-aggregate-write-word-2
-slice-aggregate-write-word-2 c = search rules
-
 pub returns : goal.returns
 returns c =
     let a = c.args in

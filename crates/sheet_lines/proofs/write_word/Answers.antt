@@ -11,23 +11,17 @@ use Rattle.sheet_lines.specs.Laid.{Adds}
 use Rattle.sheet_lines.proofs.Laying.{relay}
 use Rattle.sheet_lines.proofs.Lines.{word_more}
 use Rattle.sheet_lines.proofs.write_word.Goals as goal
-use Rattle.sheet_lines.proofs.write_word.Goals.{At-loop-i}
 
 pub loop-i-init : goal.loop-i-init
 loop-i-init c = (omega arith, refl, λ t o h. relay (sym (append-nil t)) h)
 
 pub loop-i-preserved : goal.loop-i-preserved
-loop-i-preserved c =
-    let l = (goal.at.loop-i-preserved c).At-loop-i in (
-      omega arith,
-      c.push-place.auto.0 ∙ l.loop-i.invariant.1,
-      λ t o h. relay (word_more l.args.word.now l.loop-i.i c.loop-i-test.true t) (c.push-place.ensures _ o (l.loop-i.invariant.2 t o h)),
-    )
-
-pub shape_of-out : goal.shape_of-out
-shape_of-out c = c.loop-i.invariant.1
+loop-i-preserved c = (
+  omega arith,
+  c.push-place.auto.out ∙ c.loop-i.invariant.1,
+  λ t o h. relay (word_more c.args.word.now c.loop-i.i c.loop-i-test.true t) (c.push-place.ensures _ o (c.loop-i.invariant.2 t o h)),
+)
 
 pub returns : goal.returns
 returns c =
-    let l = (goal.at.returns c).At-loop-i in
-    λ t o h. relay (ap (λ (w : List ℕ). t ++ w) (take_all l.loop-i.i l.args.word.now c.loop-i-test.false)) (l.loop-i.invariant.2 t o h)
+    λ t o h. relay (ap (λ (w : List ℕ). t ++ w) (take_all c.loop-i.i c.args.word.now c.loop-i-test.false)) (c.loop-i.invariant.2 t o h)

@@ -1,0 +1,5 @@
+-- Each call takes a digit off.
+use Rattle.sheet_lines.proofs.+write_decimal.Given as goal
+
+abbrev pub decreases-write_decimal : goal.decreases-write_decimal
+decreases-write_decimal l = l.n
