@@ -3,7 +3,7 @@
 use mathlib.Core.Path.{◌≡◌, refl, sym, ◌∙◌, ap, ap₂, subst}
 use mathlib.Core.Bool.{Bool, true, false, cond}
 use mathlib.Core.List.{List, [], ◌∷◌, ◌++◌}
-use Prim.Native.Nat.{ℕ, suc, ◌-◌, ◌/◌, ◌≤◌}
+use Prim.Native.Nat.{ℕ, suc, ◌-◌, ◌/◌}
 use native.Mathlib.Omega.{arith}
 use lib.Dec.{eqb}
 use lib.IntN.{ℤ}
@@ -20,7 +20,7 @@ use Rattle.calendar.specs.Outcome.{Outcome, judged}
 use Rattle.calendar.specs.Outcome.Outcome.{rows}
 use Rattle.calendar.specs.Stored.{joined, headings_from, headings_after, pool_after}
 use Rattle.granules.proofs.Tests.{eqb-iff, false-iff}
-use Rattle.row_entry.specs.Stores.{Stores, Entered}
+use Rattle.row_entry.specs.Stores.{Entered}
 use Rattle.row_entry.specs.declared.Appended.TheVariants as Appended
 use Rattle.conversion.specs.Tables.{Cleared}
 use Rattle.standing.specs.Standing.{rows_at}
@@ -28,13 +28,13 @@ use Rattle.standing.proofs.Decides.{rows-length}
 use Rattle.walks.specs.Walk as W
 use Rattle.walks.specs.Walk.{lengths_of, admits, entries_of, progress_after, left, begun, start, ready, entered, stepped}
 use Rattle.walks.specs.Walk.Progress.{due, done, refused_at}
-use Rattle.walks.proofs.Came.{admitted-gives, room_at, step_to, entered-is, stepped-is}
+use Rattle.walks.proofs.Came.{admitted-gives, step_to, entered-is, stepped-is}
 use Rattle.walks.proofs.States.{start_is}
 use Rattle.steps.specs.declared.Walk.{Walk}
 use Rattle.steps.specs.declared.Lengths.{Lengths}
 use Rattle.steps.specs.declared.Progress.{Progress}
-use Rattle.steps.specs.declared.Progress.TheVariants.{Due, Done, Refused}
-use Rattle.steps.specs.State.{lengths_in, progress_of, walk_of, Gives, behind}
+use Rattle.steps.specs.declared.Progress.TheVariants.{Due, Refused}
+use Rattle.steps.specs.State.{lengths_in, progress_of, Gives, behind}
 
 -- ---- after a refusal, and where rows stand
 

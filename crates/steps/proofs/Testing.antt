@@ -1,25 +1,21 @@
 -- The test before an entry is taken, part by part.
 -- Assumes nothing.
-use mathlib.Core.Path.{◌≡◌, refl, sym, ◌∙◌, ap, subst}
-use mathlib.Core.Logic.{◌⊎◌, inl, inr}
+use mathlib.Core.Path.{◌≡◌, refl, sym, ◌∙◌, ap}
 use mathlib.Core.Bool.{Bool, true, false, ◌&&◌}
 use mathlib.Core.List.{List}
-use Prim.Native.Nat.{ℕ, ◌+◌, ◌*◌, ◌/◌, ◌%◌, ◌≤◌, ◌<◌}
+use Prim.Native.Nat.{ℕ, ◌+◌, ◌*◌, ◌/◌, ◌≤◌, ◌<◌}
 use native.Mathlib.Nat.{div-add-mod}
 use native.Mathlib.Omega.{arith}
-use lib.Dec.{eqb, ltb}
 use lib.IntN.{ℤ}
-use lib.ListN.{length, take, replicate}
+use lib.ListN.{length, take}
 use lib.Seq.{take_at}
-use Rattle.calendar.specs.Meaning.{Row, empty}
 use Rattle.calendar.specs.Limits.{pool_limit, entry_limit, heading_length}
-use Rattle.calendar.specs.Reply.{Reply}
 use Rattle.calendar.specs.Reply.Reply.{refused, answer}
 use Rattle.calendar.specs.Stored.{joined}
-use Rattle.granules.proofs.Tests.{true≢false, false-iff, eqb-iff, ltb_iff}
+use Rattle.granules.proofs.Tests.{true≢false, ltb_iff}
 use Rattle.row_entry.specs.Stores.{Stores, EntryDue}
 use Rattle.standing.specs.Standing.{rows_at, standing}
-use Rattle.standing.specs.Tests.{end_of, EndsAt}
+use Rattle.standing.specs.Tests.{EndsAt}
 use Rattle.standing.proofs.Decides.{rows-length}
 use Rattle.standing.proofs.ByParts.{end_is}
 use Rattle.walks.specs.Walk.{Lengths, lengths_of, same_lengths, admits, is_entry, ready}

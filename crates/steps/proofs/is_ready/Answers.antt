@@ -2,15 +2,13 @@
 -- Assumes nothing.
 use mathlib.Core.Path.{◌≡◌, refl, sym, ◌∙◌, ap}
 use mathlib.Core.Logic.{⊎_elim}
-use Prim.Native.Nat.{ℕ}
 use lib.ListN.{length}
 use Rattle.granules.proofs.Tests.{true≢false}
-use Rattle.calendar.specs.Reply.Reply.{refused, answer}
+use Rattle.calendar.specs.Reply.Reply.{answer}
 use Rattle.walks.specs.Walk as W
 use Rattle.entries.specs.Entries.{begun_reply}
 use Rattle.steps.specs.State.{lengths_in}
 use Rattle.steps.proofs.Testing.{other-lengths, not-admitted, no-entry, rows-decide, headings-for}
-use borrow.Author.Rules.{rules}
 use borrow.Author.Tests.{eqb-true, eqb-false, not-true, not-false}
 use Rattle.steps.proofs.is_ready.Goals as goal
 use Rattle.steps.proofs.is_ready.Goals.{After-begin-begun, Else-pool-lengths, In-Entries, Start}
@@ -33,20 +31,24 @@ passed c = sym c.begin-begun.ensures ∙ ap begun_reply c.in-Entries.is
 pub returns-then-table-lengths : goal.returns-then-table-lengths
 returns-then-table-lengths c =
     let a = c.args in
-    record { test =
-      sym (other-lengths _ a.k a.table.now a.headings.now a.pool.now (λ e.
+    record {
+      test =
+          sym (other-lengths _ a.k a.table.now a.headings.now a.pool.now (λ e.
           ⊎_elim (λ w. w.if-table-lengths.true (ap (λ (l : W.Lengths). l.table) e))
           (⊎_elim (λ w. eqb-false _ _ (not-true _ w.if-headings-lengths.true-raw) (ap (λ (l : W.Lengths). l.headings) e))
           (λ w. eqb-false _ _ (not-true _ w.if-pool-lengths.true-raw) (ap (λ (l : W.Lengths). l.pool) e)))
           c.then-table-lengths.branch-raw));
-      ends = λ e. absurd (true≢false e refl) }
+      ends = λ e. absurd (true≢false e refl);
+    }
 
 pub returns-in_default : goal.returns-in_default
 returns-in_default c =
     let b = (goal.at.returns-in_default c).After-begin-begun in
     let a = (start (goal.at.After-begin-begun b).Else-pool-lengths).args in
-    record { test = sym (not-admitted _ a.k a.table.now a.headings.now a.pool.now _ (sym b.begin-begun.ensures ∙ ap begun_reply c.in_default.is));
-      ends = λ e. absurd (true≢false e refl) }
+    record {
+      test = sym (not-admitted _ a.k a.table.now a.headings.now a.pool.now _ (sym b.begin-begun.ensures ∙ ap begun_reply c.in_default.is));
+      ends = λ e. absurd (true≢false e refl);
+    }
 
 pub returns-then-k-n : goal.returns-then-k-n
 returns-then-k-n c =

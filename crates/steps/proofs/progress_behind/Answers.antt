@@ -1,13 +1,11 @@
 -- `steps::progress_behind` meets its contract.
 -- Assumes nothing.
-use mathlib.Core.Path.{◌≡◌, refl, sym, ◌∙◌, ap, ap₂}
+use mathlib.Core.Path.{◌≡◌, sym, ◌∙◌, ap}
 use mathlib.Core.Bool.{Bool, cond}
-use Prim.Native.Nat.{ℕ, suc, ◌+◌, ◌/◌}
+use Prim.Native.Nat.{suc, ◌+◌, ◌/◌}
 use native.Mathlib.Omega.{arith}
-use lib.Dec.{eqb}
 use Rattle.granules.proofs.Tests.{eqb-iff, false-iff}
 use Rattle.walks.specs.Walk.Progress.{due, done}
-use borrow.Author.Rules.{rules}
 use Rattle.steps.proofs.progress_behind.Goals as goal
 
 pub returns-then-next-lengths : goal.returns-then-next-lengths

@@ -1,11 +1,8 @@
 -- `steps::start` meets its contract: the lengths are read, checks 1 to 3 made, and both lists cleared.
 -- Assumes nothing.
-use mathlib.Core.Path.{◌≡◌, refl, sym, ◌∙◌, ap}
-use Rattle.calendar.specs.Reply.Reply.{refused, answer}
-use Rattle.walks.specs.Walk.{admits}
+use mathlib.Core.Path.{refl, sym, ◌∙◌, ap}
 use Rattle.entries.specs.Entries.{begun_reply}
 use Rattle.steps.proofs.Taking.{start-refused, start-begun}
-use borrow.Author.Rules.{rules}
 use Rattle.steps.proofs.start.Goals as goal
 use Rattle.steps.proofs.start.Goals.{After-begin-begun, After-clear}
 

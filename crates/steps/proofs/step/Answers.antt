@@ -1,6 +1,6 @@
 -- `steps::step` meets its contract: an entry that is due is taken; else nothing changes.
 -- Assumes nothing.
-use mathlib.Core.Path.{◌≡◌, refl, sym, ◌∙◌, ap, subst}
+use mathlib.Core.Path.{◌≡◌, refl, sym, ap, subst}
 use mathlib.Core.Logic.{◌⊎◌, inl, inr}
 use mathlib.Core.List.{List}
 use Prim.Native.Nat.{ℕ}
@@ -10,7 +10,6 @@ use Rattle.steps.specs.declared.Walk.{Walk}
 use Rattle.walks.specs.Walk as W
 use Rattle.walks.proofs.Came.{call-due, ended-stays}
 use Rattle.steps.specs.State.{progress_of, walk_of, Gives}
-use borrow.Author.Rules.{rules}
 use Rattle.steps.proofs.step.Goals as goal
 use Rattle.steps.proofs.step.Goals.{After-take_due, In-Due}
 

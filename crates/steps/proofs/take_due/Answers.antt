@@ -1,10 +1,9 @@
 -- `steps::take_due` meets its contract: where the test fails it is 13, and else the entry is taken.
 -- Assumes nothing.
-use mathlib.Core.Path.{◌≡◌, refl, sym, ◌∙◌, ap}
+use mathlib.Core.Path.{sym, ◌∙◌}
 use borrow.Author.Tests.{not-false}
 use Rattle.granules.proofs.Tests.{not_iff}
 use Rattle.steps.proofs.Taking.{test-fails, test-passes}
-use borrow.Author.Rules.{rules}
 use Rattle.steps.proofs.take_due.Goals as goal
 use Rattle.steps.proofs.take_due.Goals.{After-clear, After-is_ready-stood, After-take_entry, Else-not-stood, Then-not-stood}
 

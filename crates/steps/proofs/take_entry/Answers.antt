@@ -1,10 +1,9 @@
 -- `steps::take_entry` meets its contract: the entry is converted behind the rows that stand; what is behind its row is cleared.
 -- Assumes nothing.
-use mathlib.Core.Path.{◌≡◌, refl, sym, ◌∙◌, ap, subst}
+use mathlib.Core.Path.{subst}
 use mathlib.Core.List.{List}
 use Prim.Native.Nat.{ℕ}
 use lib.IntN.{ℤ}
-use lib.ListN.{length}
 use Rattle.row_entry.specs.declared.Appended.{Appended}
 use Rattle.row_entry.specs.Stores.{Entered}
 use Rattle.conversion.proofs.Clearing.{cleared-as}
@@ -13,7 +12,6 @@ use Rattle.standing.proofs.Decides.{rows-length}
 use Rattle.steps.specs.State.{lengths_in}
 use Rattle.steps.proofs.Testing.{few, stores, entry-due}
 use Rattle.steps.proofs.Taking.{entry-refused, entry-taken}
-use borrow.Author.Rules.{rules}
 use Rattle.steps.proofs.take_entry.Goals as goal
 use Rattle.steps.proofs.take_entry.Goals.{After-clear, After-clear_cells, After-convert_entry-entry, In-Ends, In-Refused, Start}
 
