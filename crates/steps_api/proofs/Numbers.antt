@@ -1,6 +1,6 @@
 -- Codes that fit a number of 64 bits, and the numbers of a state.
 -- Assumes nothing.
-use mathlib.Core.Path.{◌≡◌, refl, sym, ap, ◌∙◌}
+use mathlib.Core.Path.{◌≡◌, refl, ◌∙◌}
 use mathlib.Core.List.{List, [], ◌∷◌, ◌++◌}
 use Prim.Native.Nat.{ℕ, ◌<◌, ◌^◌, ◌+◌, ◌*◌}
 use native.Mathlib.Omega.{arith}

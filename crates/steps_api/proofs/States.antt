@@ -19,7 +19,7 @@ use Rattle.calendar.specs.Table.{entry_at, admitted}
 use Rattle.calendar.specs.Outcome.{Outcome}
 use Rattle.granules.proofs.Replies.{no-refusal}
 use Rattle.standing.specs.Standing.{rows_at}
-use Rattle.walks.specs.Walk.{Lengths, Progress, Walk, Left, lengths_of, entries_of, admits, progress_after, left, begun, start, stepped, call}
+use Rattle.walks.specs.Walk.{Lengths, Progress, Walk, Left, lengths_of, entries_of, admits, progress_after, left, begun, start, stepped}
 use Rattle.walks.specs.Walk.Progress.{due, done, refused_at}
 use Rattle.walks.specs.Runs.{Lent, call_on, Reached}
 use Rattle.walks.specs.Runs.Reached.{started, called}

@@ -1,5 +1,5 @@
 -- What a call answers as a number for C, and the numbers of a state.
-use Rattle.std.specs.Prelude.{List, ◌∷◌, ◌++◌, ℕ, ◌+◌, ◌*◌, ℤ, pos, take, drop}
+use Rattle.std.specs.Prelude.{List, ◌∷◌, ◌++◌, ◌+◌, ◌*◌, ℤ, pos, take, drop}
 use Rattle.walks.specs.Walk.{Progress, Walk}
 use Rattle.walks.specs.Walk.Progress.{due, done, refused_at}
 

@@ -1,12 +1,10 @@
 -- `steps_api::start` meets its contract: the lengths are kept in the state, and then how far the walk is.
 -- Assumes nothing.
-use mathlib.Core.Path.{◌≡◌, refl, sym, ◌∙◌, ap}
-use mathlib.Core.Bool.{Bool, cond}
-use mathlib.Core.Option.{none, some}
+use mathlib.Core.Path.{◌≡◌, ◌∙◌, ap}
 use borrow.Author.Tests.{ne_eqb}
 use Rattle.steps_api.specs.Told.{started_in}
 use Rattle.steps_api.proofs.Telling.{told-nothing, told-start}
-use borrow.Author.Rules.{rules, sfits_of}
+use borrow.Author.Rules.{sfits_of}
 use native.Mathlib.Omega.{arith}
 use lib.IntN.{pos}
 use lib.ListN.{length}

@@ -1,14 +1,12 @@
 -- `steps_api::step` meets its contract: a call in the walk that the state holds.
 -- Assumes nothing.
-use mathlib.Core.Path.{◌≡◌, refl, sym, ◌∙◌, ap}
+use mathlib.Core.Path.{sym, ◌∙◌, ap}
 use mathlib.Core.Option.{Option}
-use lib.IntN.{ℤ}
-use lib.ListN.{length}
 use Rattle.walks.specs.Walk as W
-use Rattle.steps_api.specs.Held.{held_as, walk_in}
+use Rattle.steps_api.specs.Held.{held_as}
 use Rattle.steps_api.specs.Told.{called_in}
 use Rattle.steps_api.proofs.Telling.{walk-eight, told-nothing, told-step}
-use borrow.Author.Rules.{rules, sfits_of}
+use borrow.Author.Rules.{sfits_of}
 use mir.Facts.{to_z-of_z}
 use mir.Syntax.{w64}
 use Rattle.steps_api.proofs.step.Goals as goal
