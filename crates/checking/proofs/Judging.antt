@@ -37,8 +37,7 @@ use Rattle.kinds.specs.Stands.{row_in}
 use Rattle.entries.specs.declared.Named.{Named}
 use Rattle.entries.specs.Naming.{Names}
 use Rattle.fill_shared.specs.Placed.{over, filled_as}
-use Rattle.fill_shared.specs.declared.Filled.{Filled}
-use Rattle.fill_shared.specs.declared.Filled.TheVariants.{Labelled, Unlabelled, OutOfRange}
+use Rattle.fill_shared.specs.declared.Filled.TheVariants.{Labelled}
 use Rattle.match_shared.specs.Matching.{agree}
 use Rattle.operand_checks.specs.declared.Extent.{Extent}
 use Rattle.operand_checks.specs.Admission.{admission}
@@ -48,12 +47,11 @@ use Rattle.row_entry.proofs.Sounds.{operands-sound, factor-positive}
 use Rattle.row_entry.proofs.AtRows.{enterable, over-is}
 use Rattle.row_entry.proofs.Admitted.{Admitted, none-labelled, out_of_range, all-labelled}
 use Rattle.row_entry.proofs.Writing.{ExtentFits, passed, is-given}
-use Rattle.conversion.specs.Shows.{period_at, row_at}
+use Rattle.conversion.specs.Shows.{row_at}
 use Rattle.standing.specs.Tests.{Ends}
 use Rattle.verdicts.specs.Check.{stands}
 use Rattle.checking.specs.Claims.{Behind, Judges}
 use Rattle.checking.specs.Weighing.{MayBeRight, Weighable, weighed}
-use Rattle.checking.specs.declared.entry.Judged.{Judged}
 use Rattle.checking.specs.declared.entry.Judged.TheVariants.{Refused, Wrong, Right}
 use Rattle.verdicts.proofs.LeftBy.{left_by, left-length, left-stores, left-operand}
 use Rattle.verdicts.proofs.Numbers.{stands-numbers}

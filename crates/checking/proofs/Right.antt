@@ -2,7 +2,7 @@
 -- Assumes nothing.
 use mathlib.Core.Path.{◌≡◌, sym, ◌∙◌, ap}
 use mathlib.Core.Logic.{◌↔◌}
-use mathlib.Core.Bool.{true, false, ◌&&◌}
+use mathlib.Core.Bool.{true, false}
 use mathlib.Core.List.{List}
 use Prim.Native.Nat.{ℕ, ◌+◌, ◌*◌, ◌≤◌}
 use native.Mathlib.Omega.{arith}
@@ -28,7 +28,7 @@ use Rattle.row_entry.specs.Entering.{operand_of}
 use Rattle.conversion.specs.Shows.{start_at, granules_at, row_at}
 use Rattle.standing.specs.Standing.{is_least}
 use Rattle.standing.specs.Tests.{is_counted, row_stands, Ends}
-use Rattle.match_shared.specs.Matching.{agree, Turns}
+use Rattle.match_shared.specs.Matching.{agree}
 use Rattle.match_shared.proofs.RightRow.{right-row}
 use Rattle.verdicts.specs.Check.{stands}
 use Rattle.verdicts.proofs.Numbers.{stands-numbers}

@@ -32,7 +32,6 @@ use Rattle.match_shared.specs.Matching.{agree, matched_as}
 use Rattle.match_shared.specs.Claims.{Claimed}
 use Rattle.operand_checks.specs.declared.Extent.{Extent}
 use Rattle.checking.specs.Weighing.{Weighable, judged_as, weighed}
-use Rattle.checking.specs.declared.entry.Judged.{Judged}
 use Rattle.checking.specs.declared.entry.Judged.TheVariants.{Refused, Wrong, Right}
 
 -- ---- by the comparison

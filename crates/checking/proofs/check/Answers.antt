@@ -1,6 +1,5 @@
 -- `checking::check` meets its contract: checks 1, 2 and 3 pass, and then it is what its entries and the rest come to.
 -- Assumes nothing.
-use borrow.Author.Rules.{rules}
 use mathlib.Core.Path.{◌≡◌, sym, ◌∙◌, ap}
 use Prim.Native.Nat.{ℕ, ◌/◌}
 use lib.ListN.{length}

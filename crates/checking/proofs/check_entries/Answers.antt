@@ -1,6 +1,5 @@
 -- `checking::check_entries` meets its contract. The loop's invariant: the entries before k are right, and the others decide the verdict.
 -- Assumes nothing.
-use borrow.Author.Rules.{rules}
 use mathlib.Core.Path.{◌≡◌, sym, ◌∙◌, ap, subst}
 use mathlib.Core.List.{[]}
 use mathlib.Core.Bool.{Bool, cond}
@@ -13,7 +12,7 @@ use Rattle.verdicts.specs.Check.{check_entries}
 use Rattle.verdicts.specs.declared.Verdict.TheVariants.{Accepted, Wrong}
 use Rattle.checking.specs.Claims.{Judges}
 use Rattle.checking.specs.declared.entry.Judged.{Judged}
-use Rattle.checking.proofs.Table.{Checked, checked-none, entry-due, entry-refused, entry-wrong, entry-right, all_right}
+use Rattle.checking.proofs.Table.{checked-none, entry-due, entry-refused, entry-wrong, entry-right, all_right}
 use Rattle.checking.proofs.check_entries.Goals as goal
 use Rattle.checking.proofs.check_entries.Goals.{After-check_entry-judged, After-number, After-rest_is_empty, At-loop-k, In-Right, Start}
 

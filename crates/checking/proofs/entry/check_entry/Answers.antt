@@ -1,7 +1,6 @@
 -- `checking::entry::check_entry` meets its contract: an entry that checks 4, 5 and 6 refuse is refused; any other is checked as its operation is.
 -- Assumes nothing.
-use mathlib.Core.Path.{◌≡◌, sym, ◌∙◌, ap, subst}
-use borrow.Author.Rules.{rules}
+use mathlib.Core.Path.{sym, ◌∙◌, ap, subst}
 use Prim.Native.Nat.{ℕ, ◌-◌}
 use lib.ListN.{length}
 use Rattle.calendar.specs.Meaning.{Row}

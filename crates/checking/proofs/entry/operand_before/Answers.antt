@@ -1,8 +1,7 @@
 -- `checking::entry::operand_before` meets its contract.
 -- Assumes nothing.
-use mathlib.Core.Path.{◌≡◌, ◌∙◌}
+use mathlib.Core.Path.{◌∙◌}
 use native.Mathlib.Omega.{arith}
-use borrow.Author.Rules.{rules}
 use Rattle.verdicts.proofs.LeftBy.{operand-among, operand-none}
 use Rattle.checking.proofs.entry.operand_before.Goals as goal
 use Rattle.checking.proofs.entry.operand_before.Goals.{Start}

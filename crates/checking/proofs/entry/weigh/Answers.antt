@@ -1,6 +1,6 @@
 -- `checking::entry::weigh` meets its contract: the claimed row is compared, or the first operand where that row cannot be right.
 -- Assumes nothing.
-use mathlib.Core.Path.{◌≡◌, sym, ◌∙◌, ap}
+use mathlib.Core.Path.{◌∙◌, ap}
 use native.Mathlib.Omega.{arith}
 use borrow.Author.Rules.{rules}
 use Rattle.integers.proofs.Machine.{plain}
