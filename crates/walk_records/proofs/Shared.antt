@@ -16,14 +16,14 @@ use base.Logic.{ent, sep}
 use base.Fml.{Lft, GName, Share, Fml, fsep, flft, fdead, fobs, fauth, flent, fobor, Incl}
 use ghost.Rules.{Toks, span}
 use types.Logic.{Logic, sem, lfts}
-use types.Kit.{‵, raw, ◌⊛◌, later, ◌$◌, ◌∵◌, !, qed, move, use2, drop, split, join, fsplit, fjoin, feq_i, frame, await, updating, now as at_once, done}
+use types.Kit.{‵, raw, ◌⊛◌, later, ◌$◌, ◌∵◌, !, qed, move, use2, drop, split, join, fsplit, fjoin, feq_i, await, updating, now as at_once, done}
 use types.Share.{arr_parts}
 use types.Tokens.{lent_back}
 use denote.RattleType.{RattleType}
 use denote.Shadow.{pure_l, pure_i}
 use denote.Memory.{shares, shared_of}
 use denote.Shares.{SharesAsFrom}
-use denote.Slice.{slice_val, MutSlice, ShrSlice, heres, Room, shr_slice_at, mut_slice_at, coded_holeys}
+use denote.Slice.{slice_val, MutSlice, ShrSlice, heres, Room, mut_slice_at, coded_holeys}
 use denote.Lend.{Held, lends_shr_slice}
 use denote.Index.{opens_slice, closes_slice}
 use Rattle.hand_proofs.proofs.Written.{at-list}

@@ -1,5 +1,5 @@
 -- What a call makes of the first headings is what it makes of all, once they are written.
-use Rattle.std.proofs.Common.{length, ◌≡◌, ◌*◌, arith, rules}
+use Rattle.std.proofs.Common.{length, ◌≡◌, ◌*◌, arith}
 use Rattle.calendar.specs.Limits.{entry_limit, heading_length}
 use Rattle.steps.specs.State.{walk_of}
 use Rattle.walk_records.proofs.Joined.{step_given}

@@ -1,18 +1,14 @@
 -- `walk_records::step_read` meets its contract: the call over the first headings is told the length that is due.
 -- Assumes nothing.
-use borrow.Author.Rules.{rules}
-use mathlib.Core.Path.{◌≡◌, sym, ◌∙◌, ap, ap₂}
+use mathlib.Core.Path.{◌≡◌, ◌∙◌, ap, ap₂}
 use mathlib.Core.Bool.{Bool}
 use mathlib.Core.List.{List, ◌++◌}
-use Prim.Native.Nat.{ℕ, ◌*◌, ◌≤◌}
-use native.Mathlib.Omega.{arith}
+use Prim.Native.Nat.{ℕ, ◌*◌}
 use lib.IntN.{ℤ}
-use lib.ListN.{length, take, drop}
-use lib.Seq.{length-take-le}
-use Rattle.calendar.specs.Limits.{entry_limit, heading_length}
+use lib.ListN.{take, drop}
+use Rattle.calendar.specs.Limits.{heading_length}
 use Rattle.heading_records.specs.declared.Read.{Read}
 use Rattle.heading_records.specs.Reading.{at_most}
-use Rattle.heading_records.proofs.Reading.{read_length, most-limit}
 use Rattle.walks.specs.Walk as W
 use Rattle.steps.specs.declared.Walk.{Walk}
 use Rattle.steps.specs.State.{progress_of, walk_of, Gives}
