@@ -1,10 +1,8 @@
 -- `sheet_text::clear` meets its contract. The loop's invariant: the bytes before i are zero.
 -- Assumes nothing.
-use borrow.Author.Rules.{rules}
 use Prim.Native.Nat.{◌-◌}
-use native.Mathlib.Omega.{arith}
 use lib.ListN.{length}
-use Rattle.conversion.proofs.Clearing.{Made, made_none, made-length, made_more, made_all}
+use Rattle.conversion.proofs.Clearing.{Made}
 use Rattle.sheet_text.proofs.clear.Given as goal
 
 abbrev pub invariant-loop-i : goal.invariant-loop-i
@@ -12,4 +10,3 @@ invariant-loop-i l = Made 0 l.initial.out 0 l.i l.out
 
 abbrev pub decreases-loop-i : goal.decreases-loop-i
 decreases-loop-i l = length l.initial.out - l.i
-

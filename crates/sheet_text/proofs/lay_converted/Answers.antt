@@ -1,6 +1,5 @@
 -- `sheet_text::lay_converted` meets its contract: what is written are the lines of what the conversion leaves.
 -- Assumes nothing.
-use borrow.Author.Rules.{rules}
 use mathlib.Core.Path.{◌≡◌, subst}
 use mathlib.Core.List.{[]}
 use Prim.Native.Nat.{◌*◌}
@@ -11,7 +10,7 @@ use Rattle.conversion.specs.declared.Conversion.{Conversion}
 use Rattle.sheet_lines.proofs.Laying.{laid_none, relay}
 use Rattle.sheet_text.proofs.Rows.{printed-refusal, rows-there, printed-rows}
 use Rattle.sheet_text.proofs.lay_converted.Goals as goal
-use Rattle.sheet_text.proofs.lay_converted.Goals.{After-convert-converted, After-pool-1, After-write_refusal, After-write_rows, In-Refused-2, Start}
+use Rattle.sheet_text.proofs.lay_converted.Goals.{After-convert-converted, After-write_refusal, After-write_rows, Start}
 
 abbrev start : After-convert-converted → Start
 start a = (goal.at.After-convert-converted a).Start
@@ -25,19 +24,16 @@ says a x e = subst (Says a) e (rw ((start a).requires.0, (start a).requires.1) a
 
 pub write_rows-requires : goal.write_rows-requires
 write_rows-requires c =
-    let m = (goal.at.write_rows-requires c).After-pool-1 in
-    rows-there _ _ _ _ _ (says (goal.at.After-pool-1 m).After-convert-converted _ m.enum_told-1.given.1)
+    rows-there _ _ _ _ _ (says (goal.at.write_rows-requires c).After-convert-converted _ c.in-Converted.is)
 
 pub returns-in-Refused : goal.returns-in-Refused
 returns-in-Refused c =
     let w = (goal.at.returns-in-Refused c).After-write_refusal in
-    let m = (goal.at.After-write_refusal w).In-Refused-2 in
-    relay (printed-refusal _ _ _ _ _ _ _ (says (goal.at.In-Refused-2 m).After-convert-converted _ m.in-Refused.is))
+    relay (printed-refusal _ _ _ _ _ _ _ (says (goal.at.returns-in-Refused c).After-convert-converted _ c.in-Refused.is))
     (w.write_refusal.ensures [] _ (laid_none _))
 
 pub returns-in-Converted : goal.returns-in-Converted
 returns-in-Converted c =
     let w = (goal.at.returns-in-Converted c).After-write_rows in
-    let m = (goal.at.After-write_rows w).After-pool-1 in
-    relay (printed-rows _ _ _ _ _ (says (goal.at.After-pool-1 m).After-convert-converted _ m.enum_told-1.given.1))
+    relay (printed-rows _ _ _ _ _ (says (goal.at.returns-in-Converted c).After-convert-converted _ c.in-Converted.is))
     (w.write_rows.ensures [] _ (laid_none _))

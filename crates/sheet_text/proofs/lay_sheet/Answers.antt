@@ -1,6 +1,5 @@
 -- `sheet_text::lay_sheet` meets its contract: what is written is the line of the bad line, or the sheet of the table that was read.
 -- Assumes nothing.
-use borrow.Author.Rules.{rules}
 use mathlib.Core.Path.{◌≡◌, sym, ◌∙◌, ap, subst}
 use mathlib.Core.List.{[]}
 use Prim.Native.Nat.{ℕ, ◌≤◌}
@@ -14,7 +13,7 @@ use Rattle.sheet_lines.specs.RowLines.{refusal_line}
 use Rattle.sheet_lines.proofs.Laying.{laid_none, relay}
 use Rattle.sheet_text.proofs.Texts.{sheet-bad, sheet-table}
 use Rattle.sheet_text.proofs.lay_sheet.Goals as goal
-use Rattle.sheet_text.proofs.lay_sheet.Goals.{After-lay_table, After-number, After-read_table-reading, After-write_refusal, In-Bad-2, In-Table, Start}
+use Rattle.sheet_text.proofs.lay_sheet.Goals.{After-lay_table, After-read_table-reading, After-write_refusal, In-Table, Start}
 
 abbrev start : After-read_table-reading → Start
 start a = (goal.at.After-read_table-reading a).Start
@@ -30,8 +29,8 @@ abbrev reading : In-Table → After-read_table-reading
 reading k = (goal.at.In-Table k).After-read_table-reading
 
 -- the table that was read stands in the array
-read : (k : In-Table) → k.in-Table.n ≤ length (reading k).read_table.new.1.0
-read k = (sheet-table table_length _ _ _ (reading k).read_table.auto.1.0 (says (reading k) _ k.in-Table.is)).0
+read : (k : In-Table) → k.in-Table.n ≤ length (reading k).read_table-reading.new.table
+read k = (sheet-table table_length _ _ _ (reading k).read_table-reading.auto.table (says (reading k) _ k.in-Table.is)).0
 
 pub slice_bounds-table-end : goal.slice_bounds-table-end
 slice_bounds-table-end c = read c
@@ -42,15 +41,13 @@ slice_bounds-lay_table-end c = sym (length-take-le _ _ (read (goal.at.slice_boun
 pub returns-in-Bad : goal.returns-in-Bad
 returns-in-Bad c =
     let w = (goal.at.returns-in-Bad c).After-write_refusal in
-    let n = (goal.at.After-write_refusal w).After-number in
-    let m = (goal.at.After-number n).In-Bad-2 in
-    let is-19 = ap (λ (k : ℕ). refusal_line k m.in-Bad.line) n.number.ensures in
-    relay (is-19 ∙ sheet-bad table_length _ _ _ (says (goal.at.In-Bad-2 m).After-read_table-reading _ m.in-Bad.is))
+    let is-19 = ap (λ (k : ℕ). refusal_line k c.in-Bad.line) c.number.ensures in
+    relay (is-19 ∙ sheet-bad table_length _ _ _ (says (goal.at.returns-in-Bad c).After-read_table-reading _ c.in-Bad.is))
     (w.write_refusal.ensures [] _ (laid_none _))
 
 pub returns-in-Table : goal.returns-in-Table
 returns-in-Table c =
     let w = (goal.at.returns-in-Table c).After-lay_table in
     let k = (goal.at.After-lay_table w).In-Table in
-    relay (sheet-table table_length _ _ _ (reading k).read_table.auto.1.0 (says (reading k) _ k.in-Table.is)).1
+    relay (sheet-table table_length _ _ _ (reading k).read_table-reading.auto.table (says (reading k) _ k.in-Table.is)).1
     w.lay_table.ensures

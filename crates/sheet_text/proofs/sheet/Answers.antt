@@ -1,6 +1,5 @@
 -- `sheet_text::sheet` meets its contract: laid into a cleared list, the sheet is whole where its end is not behind the list's.
 -- Assumes nothing.
-use borrow.Author.Rules.{rules}
 use mathlib.Core.Path.{◌≡◌, ◌∙◌, ap}
 use mathlib.Core.List.{[]}
 use Prim.Native.Nat.{ℕ}
@@ -15,11 +14,11 @@ abbrev clearing : After-lay_sheet-n → After-clear
 clearing y = (goal.at.After-lay_sheet-n y).After-clear
 
 abbrev start : After-lay_sheet-n → Start
-start y = (clearing y).before.before.before.before
+start y = (goal.at.After-lay_sheet-n y).Start
 
 -- the list is as long as it was
 kept : (y : After-lay_sheet-n) → length y.lay_sheet-n.new.out ≡ length (start y).args.out.now
-kept y = y.lay_sheet-n.auto.1.0 ∙ (clearing y).clear.auto.0
+kept y = y.lay_sheet-n.auto.out ∙ (clearing y).clear.auto.out
 
 pub returns-then-n-out : goal.returns-then-n-out
 returns-then-n-out c =
