@@ -1,13 +1,13 @@
 -- What headings come to that are read one after the other.
 -- Assumes nothing.
 use borrow.Author.Tests.{ltb-true, ltb-false, lt-ltb, le-ltb}
-use mathlib.Core.Path.{◌≡◌, refl, sym, ◌∙◌, ap, ap₂, subst}
+use mathlib.Core.Path.{◌≡◌, refl, sym, ◌∙◌, ap, ap₂}
 use mathlib.Core.Bool.{Bool, true, false, ◌&&◌, cond}
 use mathlib.Core.List.{List, [], ◌∷◌, ◌++◌}
 use Prim.Native.Nat.{ℕ, zero, suc, ◌+◌, ◌*◌, ◌≤◌, ◌<◌}
 use native.Mathlib.Omega.{arith}
 use lib.Dec.{eqb, ltb}
-use lib.ListN.{length, get_or, take, drop, length-map, length-set, length-replicate, drop_of_length-le}
+use lib.ListN.{length, get_or, take, drop, length-set, length-replicate, drop_of_length-le}
 use lib.Seq.{length-take-le, take_all, take-nil, drop-nil, take-append-add, drop-append-le, take-take, take-add}
 use mir.Val.{Val}
 use denote.Laws.{Is}

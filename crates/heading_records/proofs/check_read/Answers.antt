@@ -1,6 +1,5 @@
 -- `heading_records::check_read` meets its contract: the verdict is that on the first headings, but for what would be accepted with a heading beyond them that is not zero.
 -- Assumes nothing.
-use borrow.Author.Rules.{rules}
 use mathlib.Core.Path.{◌≡◌, refl, sym, ◌∙◌, ap, ap₂}
 use mathlib.Core.Bool.{Bool, true, false}
 use mathlib.Core.List.{List}
@@ -8,8 +7,7 @@ use Prim.Native.Nat.{ℕ, ◌*◌, ◌/◌}
 use native.Mathlib.Omega.{arith}
 use lib.IntN.{ℤ}
 use lib.ListN.{length, take}
-use lib.Seq.{length-take-le}
-use Rattle.calendar.specs.Limits.{entry_limit, heading_length}
+use Rattle.calendar.specs.Limits.{heading_length}
 use Rattle.verdicts.specs.Check.{check}
 use Rattle.verdicts.specs.declared.Verdict.{Verdict}
 use Rattle.heading_records.specs.declared.Read.{Read}

@@ -1,6 +1,5 @@
 -- The loop ends behind the last heading, so all are read.
 use Rattle.std.proofs.Common.{length, ◌≡◌, arith, ap, sym, ◌∙◌, subst}
-use Prim.Native.Nat.{ℕ}
 use Rattle.heading_records.specs.declared.Read.{Read}
 use Rattle.heading_records.specs.Reading.{read_upto, ReadsAll}
 use Rattle.heading_records.proofs.Reading.{reads_all}
