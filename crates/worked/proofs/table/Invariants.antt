@@ -1,7 +1,6 @@
 -- `worked::table` meets its contract: i stays within the numbers, and what is left of them falls with each turn of the loop.
 -- Assumes nothing.
 use Prim.Native.Nat.{◌≤◌, ◌-◌}
-use borrow.Author.Rules.{rules}
 use Rattle.worked.proofs.table.Given as goal
 
 abbrev pub invariant-loop-i : goal.invariant-loop-i
