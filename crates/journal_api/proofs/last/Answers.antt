@@ -1,6 +1,5 @@
 -- `journal_api::last` meets its contract: what `journal::open` answers.
 -- Assumes nothing.
-use borrow.Author.Rules.{rules}
 use mathlib.Core.Path.{◌≡◌, sym, ap, ◌∙◌}
 use Prim.Native.Nat.{◌<◌, ◌^◌}
 use native.Mathlib.Omega.{arith}
@@ -10,16 +9,12 @@ use Rattle.journal.proofs.Finding.{opened-fits}
 use Rattle.journal_api.specs.Codes.{last_code, last_start}
 use Rattle.journal_api.proofs.Numbers.{number_fits, number-back}
 use Rattle.journal_api.proofs.last.Goals as goal
-use Rattle.journal_api.proofs.last.Goals.{After-open-opened, In-Body}
+use Rattle.journal_api.proofs.last.Goals.{In-Body}
 
-abbrev opening : In-Body → After-open-opened
-opening c = (goal.at.In-Body c).After-open-opened
+found : (c : In-Body) → opened_in c.args.book.now ≡ Body c.in-Body.s c.in-Body.n
+found c = sym c.open-opened.ensures ∙ c.in-Body.is
 
-found : (c : In-Body)
-    → opened_in (opening c).before.before.args.book.now ≡ Body c.opened-1.given.0.0 c.opened-1.given.0.1.0
-found c = sym (opening c).open.ensures ∙ c.in-Body.is
-
-small : (c : In-Body) → c.opened-1.given.0.1.0 < 2 ^ 63
+small : (c : In-Body) → c.in-Body.n < 2 ^ 63
 small c = omega (arith, (opened-fits _ (found c)).1)
 
 pub overflow_cast-result : goal.overflow_cast-result

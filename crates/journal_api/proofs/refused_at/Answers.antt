@@ -1,6 +1,5 @@
 -- `journal_api::refused_at` meets its contract: a line of 32 bits, with 1900 added and the sign changed, fits 64.
 -- Assumes nothing.
-use borrow.Author.Rules.{rules}
 use mathlib.Core.Path.{◌≡◌, ap, ◌∙◌}
 use Prim.Native.Nat.{ℕ, ◌+◌, ◌<◌, ◌^◌}
 use native.Mathlib.Omega.{arith}
