@@ -1,5 +1,5 @@
 -- What a conversion and a sheet come to, as numbers for C.
-use Rattle.std.specs.Prelude.{ℕ, ◌+◌, ◌*◌, ℤ, pos, negsuc}
+use Rattle.std.specs.Prelude.{◌+◌, ◌*◌, ℤ, pos, negsuc}
 use Rattle.conversion.specs.declared.Conversion.{Conversion}
 use Rattle.conversion.specs.declared.Conversion.TheVariants.{Refused, Converted}
 use Rattle.sheet_text.specs.declared.Written.{Written}

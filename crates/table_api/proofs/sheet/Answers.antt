@@ -1,7 +1,6 @@
 -- `table_api::sheet` meets its contract: the code of what `sheet_text::sheet` answers, and the list as it leaves it. The count fits, since the list has
 -- room for the sheet.
 -- Assumes nothing.
-use borrow.Author.Rules.{rules}
 use mathlib.Core.Path.{◌∙◌, sym, ap}
 use Prim.Native.Nat.{◌<◌, ◌^◌}
 use native.Mathlib.Omega.{arith}
@@ -18,14 +17,14 @@ writing k = (goal.at.In-Bytes k).After-sheet-written
 small : (k : In-Bytes) → k.in-Bytes.n < 2 ^ 63
 small k =
     let w = writing k in
-    omega (arith, taken-fit w.sheet-written.ensures k.in-Bytes.is, w.good)
+    omega (arith, taken-fit w.sheet-written.ensures k.in-Bytes.is, w.well_formed, w.type_inv)
 
 pub overflow_cast-result : goal.overflow_cast-result
 overflow_cast-result c = count_fits c.in-Bytes.n (small c)
 
 pub returns-in-Bytes : goal.returns-in-Bytes
 returns-in-Bytes c =
-    let w = (writing c).sheet in
+    let w = (writing c).sheet-written in
     (w.result, count-back c.in-Bytes.n (small c) ∙ ap sheet_code (sym c.in-Bytes.is), w.ensures)
 
 pub returns-in-TooShort : goal.returns-in-TooShort
