@@ -3,9 +3,7 @@ use Rattle.std.specs.Prelude.{◌≡◌, ℕ, ◌+◌, ◌≤◌, ◌<◌, ◌^�
 use Rattle.table_text.specs.Text.{text_limit}
 use Rattle.journal.specs.Answers.{overlap}
 use Rattle.journal_file.specs.declared.window.Sight.{Sight}
-use Rattle.journal_file.specs.declared.window.Sight.TheVariants as Sight
 use Rattle.journal_file.specs.declared.window.Last.{Last}
-use Rattle.journal_file.specs.declared.window.Last.TheVariants as Last
 
 -- how many bytes a window has
 abbrev pub window_length : ℕ

@@ -1,6 +1,5 @@
 -- `journal_file::is_word` is safe and ends.
 -- Assumes nothing.
-use borrow.Author.Rules.{rules}
 use Prim.Native.Nat.{◌≤◌, ◌-◌}
 use lib.ListN.{length}
 use Rattle.journal_file.proofs.is_word.Given as goal
