@@ -13,4 +13,3 @@ invariant-loop-i l = Made empty l.initial.pool l.start l.i l.pool
 
 abbrev pub decreases-loop-i : goal.decreases-loop-i
 decreases-loop-i l = length l.initial.pool - l.i
-

@@ -12,4 +12,3 @@ invariant-loop-i l = Made 0 l.initial.headings 0 l.i l.headings
 
 abbrev pub decreases-loop-i : goal.decreases-loop-i
 decreases-loop-i l = length l.initial.headings - l.i
-

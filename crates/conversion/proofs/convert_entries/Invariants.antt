@@ -18,4 +18,3 @@ invariant-loop-k l = Standing l.table l.n (length l.initial.headings) (length l.
 
 abbrev pub decreases-loop-k : goal.decreases-loop-k
 decreases-loop-k l = l.n - l.k
-

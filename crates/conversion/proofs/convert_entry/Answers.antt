@@ -27,12 +27,18 @@ enter_named-requires c =
 
 pub returns-in-Refused : goal.returns-in-Refused
 returns-in-Refused c =
-    let a = c.args in record { lengths = (search rules, search rules); entered = (λ l many t. refused-named a.table.now a.k a.used l a.headings.now a.pool.now _ c.in-Refused.refusal many t c.entry_at-e.ensures
-          (subst (Says a.k c.entry_at-e.result) c.in-Refused.is c.read-reading.ensures)) }
+    let a = c.args in record {
+      lengths = (search rules, search rules);
+      entered = (λ l many t. refused-named a.table.now a.k a.used l a.headings.now a.pool.now _ c.in-Refused.refusal many t c.entry_at-e.ensures
+          (subst (Says a.k c.entry_at-e.result) c.in-Refused.is c.read-reading.ensures));
+    }
 
 pub returns-in-Named : goal.returns-in-Named
 returns-in-Named c =
     let a = c.args in
     let x = subst (Says a.k c.entry_at-e.result) c.in-Named.is c.read-reading.ensures in
-    let same = c.enter_named.auto.pool in record { lengths = (c.enter_named.auto.headings, same); entered = (λ l many t. entered a.table.now a.k a.used l a.headings.now _ a.pool.now _ _ x.0 c.enter_named.result many t c.requires.has-heading c.requires.at-most
-          c.entry_at-e.ensures x.1 same (c.enter_named.ensures.became l x.0 many t x.2)) }
+    let same = c.enter_named.auto.pool in record {
+      lengths = (c.enter_named.auto.headings, same);
+      entered = (λ l many t. entered a.table.now a.k a.used l a.headings.now _ a.pool.now _ _ x.0 c.enter_named.result many t c.requires.has-heading c.requires.at-most
+          c.entry_at-e.ensures x.1 same (c.enter_named.ensures.became l x.0 many t x.2));
+    }

@@ -21,4 +21,3 @@ invariant-loop-i l = (l.i ≤ length l.cells) × (length l.out ≡ length l.init
 
 abbrev pub decreases-loop-i : goal.decreases-loop-i
 decreases-loop-i l = length l.cells - l.i
-

@@ -22,4 +22,3 @@ invariant-loop-i l = (l.i ≤ l.n) × (length l.out ≡ length l.initial.out) ×
 
 abbrev pub decreases-loop-i : goal.decreases-loop-i
 decreases-loop-i l = l.n - l.i
-

@@ -17,4 +17,3 @@ invariant-loop-i l = (l.i ≤ length l.word) × (length l.out ≡ length l.initi
 
 abbrev pub decreases-loop-i : goal.decreases-loop-i
 decreases-loop-i l = length l.word - l.i
-
