@@ -1,4 +1,4 @@
--- Lemmas for functions that are proved by a walk of their MIR, by hand.
+-- Lemmas on calls, parameters and lists that are written, for the proofs of functions.
 --     Calls        calls by their contracts, and the contract of a function that is walked
 --     Logic        what a walk names of the logic, by one module
 --     Owned        what parameters own, and what is said of them at exit

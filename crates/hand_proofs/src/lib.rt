@@ -1,3 +1,3 @@
-// Lemmas for functions that are proved by a walk of their MIR, by hand. No code.
+// Lemmas on calls, parameters and lists that are written, for the proofs of functions. No code.
 
 #![tactic(auto)]
