@@ -2,14 +2,14 @@
 use mathlib.Core.Path.{◌≡◌, refl, sym, ◌∙◌, ap}
 use mathlib.Core.Bool.{Bool, true, false, not, ◌&&◌, true≢false, false≢true}
 use Prim.Native.Nat.{ℕ, zero, suc, ◌*◌, ◌/◌, ◌%◌, ◌^◌, ◌≤◌}
-use native.Mathlib.Nat.{lt_of_le_of_lt, le_of_mul-le-mul_right, mul-one, one-mul, mul-le-mul, div-mul_cancel, dvd_of_mod-eq-zero}
+use native.Mathlib.Nat.{lt_of_le_of_lt, le_of_mul-le-mul_right, mul-one, one-mul, mul-pos, mul-le-mul, div-mul_cancel, dvd_of_mod-eq-zero}
 use native.Mathlib.Omega.{arith}
 use lib.IntN.{pos, negsuc}
 use lib.Dec.{T, leb, eqb, leb→le, lit≤, eqb→eq, eqb-suc-zero}
 use lib.Pow.{pow_pos}
 use borrow.Author.Tests.{le-leb, eq-eqb, ne_eqb}
-use lib.Ieee.{Float, nan, inf, fin, binary64, up, down, mul, lt, le, ne}
-use lib.Ieee.Fits.{up_pos, and_l, and_r}
+use lib.Ieee.{Float, nan, inf, fin, binary64, up, down, mul, rem, lt, le, eq, ne, fits}
+use lib.Ieee.Fits.{up_pos, down_pos, and_l, and_r}
 use lib.Ieee.Exact.{HasValue}
 use lib.Ieee.Positive.{num, den, den_pos}
 use Rattle.floats.specs.Near.{float}
@@ -17,6 +17,7 @@ use Rattle.floats.specs.Allowance.{amount, share, positive_share}
 use Rattle.floats.proofs.Whole.{float_value}
 use Rattle.floats.proofs.Compare.{signed_le, le-fractions, eq-zero, mul-eq-zero}
 use Rattle.floats.proofs.Product.{mul-exact}
+use Rattle.floats.proofs.Remainder.{rem-exact}
 
 -- 0, 1 and 1 / 256
 abbrev pub positive-zero : Float
@@ -70,6 +71,22 @@ pub le-one : (v : Float) → T (amount v) → le v one ≡ leb (num v) (den v)
 le-one v a =
     le-fractions v one (sign v) false (num v) (den v) 1 1 (den_pos v) (pow_pos 0) (amount-value v a) (refl, refl) (negative-zero v a) absurd
     ∙ simp (mul-one, one-mul)
+
+multiple-of-unit : (v : Float) → T (amount v) → T (fits binary64 v) → eq (rem binary64 v unit) positive-zero ≡ eqb (num v * 256 % den v) 0
+unfolding amount
+multiple-of-unit nan a t = absurd a
+multiple-of-unit (inf s) a t = absurd a
+multiple-of-unit (fin s m e) a t =
+    eq-zero (rem binary64 (fin s m e) unit) s (m * up e * 256 % down e) (down e * 256) (mul-pos (down_pos e) (pow_pos 8))
+    (rem-exact binary64 s m e 7 t)
+
+pub share-tests : (v : Float) → T (fits binary64 v) → share v ≡ (amount v && le v one && eq (rem binary64 v unit) positive-zero)
+unfolding share
+share-tests v t = go (amount v) (λ (a : T (amount v)). a)
+  where
+    go : (b : Bool) → (T b → T (amount v)) → (b && leb (num v) (den v) && eqb (num v * 256 % den v) 0) ≡ (b && le v one && eq (rem binary64 v unit) positive-zero)
+    go true h = rw (le-one v (h tt), multiple-of-unit v (h tt) t)
+    go false h = refl
 
 -- a share that is not 0
 nonzero : (v : Float) → T (share v) → not (eqb (num v) 0) ≡ ne v positive-zero

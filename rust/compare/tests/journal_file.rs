@@ -253,7 +253,10 @@ fn found_over_the_seams_of_windows() {
     let torn = journal::record(&longest).expect("a good text");
     let torn = torn[..torn.len() - 1].repeat(6);
     let mut count = 0;
-    for behind in (0..60).chain([4_093, 4_094, 4_095, 8_187, 16_374]) {
+    let seams = [1, 2]
+        .into_iter()
+        .flat_map(|window| window * 8_187 - 14..window * 8_187 + 14);
+    for behind in (0..60).chain([4_093, 4_094, 4_095]).chain(seams) {
         let path = fresh("seams");
         let book = [&torn[..], &former, &first, &torn[..behind]].concat();
         fs::write(&path, book).expect("a file");
