@@ -1,7 +1,8 @@
 # make                        the archive, target/staticlib/libjogipahn.a (proves what has changed first)
 # make install PREFIX=DIR     the archive, the header and the pkg-config file, below DIR (/usr/local if none is named)
 # make uninstall PREFIX=DIR   removes them again
-# DESTDIR is put in front of every path that is written, for packagers. READY=--ready builds over what `rt ci` has just proved.
+# DESTDIR is put in front of every path that is written, for packagers. READY=--ready builds over what `rt ci` has
+# just proved.
 
 PREFIX = /usr/local
 VERSION = $(shell sed -n 's/^\#define JOGIPAHN_VERSION "\(.*\)"$$/\1/p' include/jogipahn.h)

@@ -2,7 +2,6 @@
 use mathlib.Core.Path.{◌≡◌, refl, sym, ap, subst, ◌∙◌}
 use mathlib.Core.Logic.{◌⊎◌, inl, inr, ⊎_elim}
 use mathlib.Core.Bool.{true, false}
-use mathlib.Core.Option.{none}
 use mathlib.Core.List.{List}
 use Prim.Native.Nat.{ℕ, zero, suc, ◌+◌, ◌-◌, ◌≤◌, ◌<◌}
 use native.Mathlib.Nat.{zero-add}
@@ -20,7 +19,6 @@ use Rattle.journal.specs.declared.search.Found.{Found}
 use Rattle.journal.specs.declared.search.Found.TheVariants.{At, Nothing}
 use Rattle.journal.specs.declared.opened.Opened.{Opened}
 use Rattle.journal.specs.declared.opened.Opened.TheVariants.{Body}
-use Rattle.journal.proofs.Places.{stands}
 use Rattle.journal.proofs.Opening.{behind-end, opened-at, opened-none}
 use Rattle.journal.proofs.Trailers.{points-stand, last_none, last-here, last_on, last_found}
 

@@ -3,9 +3,7 @@ use Rattle.std.specs.Prelude.{◌≡◌, ℕ, ◌+◌, ◌≤◌, ◌<◌, ◌^�
 use Rattle.table_text.specs.Text.{text_limit}
 use Rattle.journal.specs.Answers.{overlap}
 use Rattle.journal_store.specs.declared.window.Sight.{Sight}
-use Rattle.journal_store.specs.declared.window.Sight.TheVariants as Sight
 use Rattle.journal_store.specs.declared.window.Last.{Last}
-use Rattle.journal_store.specs.declared.window.Last.TheVariants as Last
 
 -- how many bytes a window has: a trailer, and the last byte of its body
 abbrev pub window_length : ℕ

@@ -1,6 +1,5 @@
 -- `journal_store::print_last` is safe: what the search finds is no longer than a text.
 -- Assumes nothing.
-use borrow.Author.Rules.{rules}
 use mathlib.Core.Path.{subst}
 use Rattle.journal_store.specs.Seen.{Within}
 use Rattle.journal_store.proofs.print_last.Goals as goal

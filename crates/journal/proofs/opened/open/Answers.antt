@@ -1,6 +1,5 @@
 -- `journal::opened::open` meets its contract: the place of what `last_trailer` finds in the whole file.
 -- Assumes nothing.
-use borrow.Author.Rules.{rules}
 use mathlib.Core.Path.{◌≡◌, sym, ap, ◌∙◌}
 use native.Mathlib.Omega.{arith}
 use lib.ListN.{length}

@@ -1,6 +1,5 @@
 -- `journal::opened::step_back` meets its contract: what `last_trailer` finds in the window, as a place of the file.
 -- Assumes nothing.
-use borrow.Author.Rules.{rules}
 use mathlib.Core.Path.{◌≡◌, refl, sym, ap, ◌∙◌}
 use native.Mathlib.Omega.{arith}
 use Prim.Native.Nat.{ℕ, zero, suc, ◌+◌}

@@ -1,6 +1,5 @@
 -- `journal::records::byte_at` meets its contract: a byte of the body, of the trailer, or behind both.
 -- Assumes nothing.
-use borrow.Author.Rules.{rules}
 use mathlib.Core.Path.{ap, ◌∙◌}
 use mathlib.Core.List.{List}
 use Prim.Native.Nat.{ℕ, ◌-◌}

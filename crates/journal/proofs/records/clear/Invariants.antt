@@ -1,10 +1,8 @@
 -- `journal::records::clear` meets its contract. The loop's invariant: the bytes before i are zero.
 -- Assumes nothing.
-use borrow.Author.Rules.{rules}
 use Prim.Native.Nat.{◌-◌}
-use native.Mathlib.Omega.{arith}
 use lib.ListN.{length}
-use Rattle.conversion.proofs.Clearing.{Made, made_none, made-length, made_more, made_all}
+use Rattle.conversion.proofs.Clearing.{Made}
 use Rattle.journal.proofs.records.clear.Given as goal
 
 abbrev pub invariant-loop-i : goal.invariant-loop-i

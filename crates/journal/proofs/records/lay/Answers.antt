@@ -1,11 +1,7 @@
 -- `journal::records::lay` meets its contract. The loop's invariant: the bytes before i are those of the record.
 -- Assumes nothing.
-use borrow.Author.Rules.{rules}
-use Prim.Native.Nat.{◌-◌}
 use native.Mathlib.Omega.{arith}
-use lib.ListN.{length}
-use Rattle.journal.specs.Journal.{record_of}
-use Rattle.journal.proofs.Laying.{Laid, laid_none, laid_more, laid-all}
+use Rattle.journal.proofs.Laying.{laid_none, laid_more, laid-all}
 use Rattle.journal.proofs.records.lay.Goals as goal
 
 pub loop-i-init : goal.loop-i-init

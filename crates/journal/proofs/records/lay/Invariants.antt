@@ -1,11 +1,9 @@
 -- `journal::records::lay` meets its contract. The loop's invariant: the bytes before i are those of the record.
 -- Assumes nothing.
-use borrow.Author.Rules.{rules}
 use Prim.Native.Nat.{◌-◌}
-use native.Mathlib.Omega.{arith}
 use lib.ListN.{length}
 use Rattle.journal.specs.Journal.{record_of}
-use Rattle.journal.proofs.Laying.{Laid, laid_none, laid_more, laid-all}
+use Rattle.journal.proofs.Laying.{Laid}
 use Rattle.journal.proofs.records.lay.Given as goal
 
 abbrev pub invariant-loop-i : goal.invariant-loop-i

@@ -3,7 +3,6 @@
 use mathlib.Core.Path.{sym}
 use native.Mathlib.Omega.{arith}
 use Rattle.journal.proofs.Trailers.{Marked, points-stand, body-zero, body-any}
-use borrow.Author.Rules.{rules}
 use Rattle.journal.proofs.search.body_length.Goals as goal
 use Rattle.journal.proofs.search.body_length.Goals.{After-shared_slice_known-1, After-shared_slice_known-2-1, After-shared_slice_known-6-1, After-shared_slice_known-7-1, Else-a-ge128, Else-window-lt6, Else-window-p, Else-window-p-2}
 

@@ -1,10 +1,8 @@
 -- `journal::search::last_trailer` meets its contract. The loop's invariant: no trailer points back from p on.
 -- Assumes nothing.
-use borrow.Author.Rules.{rules}
 use mathlib.Core.Path.{◌≡◌, refl, sym, ap, ◌∙◌}
-use Prim.Native.Nat.{suc, ◌-◌, ◌≤◌}
+use Prim.Native.Nat.{suc, ◌-◌}
 use native.Mathlib.Omega.{arith}
-use lib.ListN.{length}
 use Rattle.journal.specs.Window.{last_in}
 use Rattle.journal.specs.declared.search.Found.TheVariants.{At}
 use Rattle.journal.proofs.Trailers.{last_none, last-body, last-no-body}

@@ -1,13 +1,9 @@
 -- `journal::search::last_trailer` meets its contract. The loop's invariant: no trailer points back from p on.
 -- Assumes nothing.
-use borrow.Author.Rules.{rules}
-use mathlib.Core.Path.{◌≡◌, refl, sym, ap, ◌∙◌}
-use Prim.Native.Nat.{suc, ◌-◌, ◌≤◌}
-use native.Mathlib.Omega.{arith}
+use mathlib.Core.Path.{◌≡◌}
+use Prim.Native.Nat.{◌≤◌}
 use lib.ListN.{length}
 use Rattle.journal.specs.Window.{last_in}
-use Rattle.journal.specs.declared.search.Found.TheVariants.{At}
-use Rattle.journal.proofs.Trailers.{last_none, last-body, last-no-body}
 use Rattle.journal.proofs.search.last_trailer.Given as goal
 
 abbrev pub invariant-loop-p : goal.invariant-loop-p

@@ -1,6 +1,5 @@
 -- `journal_store::input::fill_at` is safe.
 -- Assumes nothing.
-use borrow.Author.Rules.{rules}
 use mathlib.Core.Path.{sym}
 use lib.Seq.{length-take-le}
 use Rattle.journal_store.proofs.input.fill_at.Goals as goal

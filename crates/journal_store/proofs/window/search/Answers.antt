@@ -1,8 +1,6 @@
 -- `journal_store::window::search` meets its contract. The next window ends before this one does, so the search ends.
 -- Assumes nothing.
-use borrow.Author.Rules.{rules}
 use mathlib.Core.Path.{subst}
-use Prim.Native.Nat.{◌<◌, ◌^◌}
 use native.Mathlib.Omega.{arith}
 use Rattle.journal_store.specs.Seen.{Seen}
 use Rattle.journal_store.proofs.window.search.Goals as goal
