@@ -8,89 +8,72 @@ ghost use Rattle.alignment.specs.Fits.{alignment_of};
 ghost use Rattle.alignment.specs.Pass.{is_compatible};
 
 use super::Alignment;
-use cursors::Found;
-
-// Whether there is a label.
-fn labelled(x: Found) -> bool
-    ensures { result ≡ is_some (found x) }
-{
-    match x {
-        Found::At(_) => true,
-        Found::Nothing => false,
-    }
-}
 
 // Whether there is one of two.
-pub fn either(x: Found, y: Found) -> bool
+pub fn either(x: Option<i64>, y: Option<i64>) -> bool
     ensures { result ≡ is_some (found x) || is_some (found y) }
 {
-    labelled(x) || labelled(y)
+    x.is_some() || y.is_some()
 }
 
 // Whether both are the same label, or none.
-pub fn same(x: Found, y: Found) -> bool
+pub fn same(x: Option<i64>, y: Option<i64>) -> bool
     ensures { result ≡ same_label (found x) (found y) }
 {
-    match x {
-        Found::At(i) => match y {
-            Found::At(j) => i == j,
-            Found::Nothing => false,
-        },
-        Found::Nothing => !labelled(y),
-    }
+    x == y
 }
 
 // Whether an instant with the labels x and y in a and b fits the labelled one before, which has o and p, as alter asks.
-fn fits_partition(o: Found, p: Found, x: Found, y: Found) -> bool
+fn fits_partition(o: Option<i64>, p: Option<i64>, x: Option<i64>, y: Option<i64>) -> bool
     ensures { result ≡ Fits.fits_partition (found o) (found p) (found x) (found y) }
 {
-    if labelled(x) {
-        if labelled(y) {
+    if x.is_some() {
+        if y.is_some() {
             if same(o, x) { same(p, y) } else { true }
         } else {
             false
         }
     } else {
-        !labelled(y)
+        y.is_none()
     }
 }
 
 // As anchor asks.
-fn fits_subcalendar(o: Found, p: Found, x: Found, y: Found) -> bool
+fn fits_subcalendar(o: Option<i64>, p: Option<i64>, x: Option<i64>, y: Option<i64>) -> bool
     ensures { result ≡ Fits.fits_subcalendar (found o) (found p) (found x) (found y) }
 {
-    if labelled(y) {
+    if y.is_some() {
         if same(x, y) {
-            if same(o, x) { labelled(p) } else { true }
+            if same(o, x) { p.is_some() } else { true }
         } else {
             false
         }
-    } else if labelled(x) {
-        if same(o, x) { !labelled(p) } else { true }
+    } else if x.is_some() {
+        if same(o, x) { p.is_none() } else { true }
     } else {
         true
     }
 }
 
 // Whether two labels of one instant are the same, where there are two.
-fn agree(x: Found, y: Found) -> bool
+fn agree(x: Option<i64>, y: Option<i64>) -> bool
     ensures { result ≡ Fits.agree (found x) (found y) }
 {
-    if labelled(x) {
-        if labelled(y) { same(x, y) } else { true }
+    if x.is_some() {
+        if y.is_some() { same(x, y) } else { true }
     } else {
         true
     }
 }
 
 // Whether a's label before is below b's, or both have it at both instants.
-fn crosses(o: Found, p: Found, x: Found, y: Found) -> bool
+fn crosses(o: Option<i64>, p: Option<i64>, x: Option<i64>, y: Option<i64>) -> bool
     ensures { result ≡ Fits.crosses (found o) (found p) (found x) (found y) }
 {
-    let Found::At(i) = o else {
+    let Some(i) = o else {
         return true;
     };
-    let Found::At(j) = y else {
+    let Some(j) = y else {
         return true;
     };
     if i < j {
@@ -103,7 +86,7 @@ fn crosses(o: Found, p: Found, x: Found, y: Found) -> bool
 }
 
 // As the set operations ask.
-fn fits_compatible(o: Found, p: Found, x: Found, y: Found) -> bool
+fn fits_compatible(o: Option<i64>, p: Option<i64>, x: Option<i64>, y: Option<i64>) -> bool
     ensures { result ≡ Fits.fits_compatible (found o) (found p) (found x) (found y) }
 {
     if agree(x, y) {
@@ -118,7 +101,7 @@ fn fits_compatible(o: Found, p: Found, x: Found, y: Found) -> bool
 }
 
 // As the alignment asks.
-pub fn fits(k: Alignment, o: Found, p: Found, x: Found, y: Found) -> bool
+pub fn fits(k: Alignment, o: Option<i64>, p: Option<i64>, x: Option<i64>, y: Option<i64>) -> bool
     ensures { result ≡ Fits.fits (alignment_of k) (found o) (found p) (found x) (found y) }
 {
     match k {

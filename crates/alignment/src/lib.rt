@@ -12,7 +12,6 @@ ghost use Rattle.alignment.specs.Codes.{code_of, coded_label};
 ghost use Rattle.alignment.specs.Fits.{alignment_of};
 ghost use Rattle.alignment.specs.Pass.{Spanned, is_free, asks_rise, RiseAlike, Starts, Limited};
 
-use cursors::Found;
 use row_check::scan;
 
 mod changing;
@@ -32,24 +31,20 @@ pub enum Alignment {
 const NO_LABEL: i64 = -9223372036854775807;
 
 // A label, or none, as a number.
-fn coded(x: Found) -> i64
+fn coded(x: Option<i64>) -> i64
     ensures { result ≡ code_of (found x) }
 {
     match x {
-        Found::At(j) => j,
-        Found::Nothing => NO_LABEL,
+        Some(j) => j,
+        None => NO_LABEL,
     }
 }
 
 // The label, or none, of such a number.
-fn decoded(x: i64) -> Found
+fn decoded(x: i64) -> Option<i64>
     ensures { found result ≡ coded_label x }
 {
-    if x == NO_LABEL {
-        Found::Nothing
-    } else {
-        Found::At(x)
-    }
+    if x == NO_LABEL { None } else { Some(x) }
 }
 
 // An instant of the first turn that has a label.

@@ -8,7 +8,7 @@ ghost use Rattle.cursors.specs.Found.{found, Sound};
 ghost use Rattle.cursors.specs.Cursor.{cursor_at};
 ghost use Rattle.alter_granules.specs.Follows.{at_least, Seeks};
 
-use cursors::{Cursor, Found};
+use cursors::Cursor;
 
 // An instant, with its cursor in a.
 #[derive(Clone, Copy)]
@@ -18,12 +18,12 @@ pub struct Instant {
 }
 
 // Whether there is a label, and it is not below j.
-pub fn at_least(label: Found, j: i64) -> bool
+pub fn at_least(label: Option<i64>, j: i64) -> bool
     ensures { result ≡ at_least j (found label) }
 {
     match label {
-        Found::At(k) => j <= k,
-        Found::Nothing => false,
+        Some(k) => j <= k,
+        None => false,
     }
 }
 

@@ -16,7 +16,6 @@ ghost use Rattle.alter_granules.specs.Short.{short_by, short, Passable};
 
 use super::coarse;
 use super::coarse::Begin;
-use cursors::Found;
 use kinds::Alteration;
 
 // How far the labels rise over the span, which is whole periods.
@@ -46,7 +45,7 @@ pub fn instant_zero(cells: &[i32], period: i64, distance: i64) -> i64
     ensures near { Within (2 ^ 52) result }
 {
     let found = row_check::instant_of(cells, period, distance, 0);
-    let Found::At(t) = found else {
+    let Some(t) = found else {
         return 0;
     };
     t
@@ -82,8 +81,7 @@ pub fn some_short(
     ensures { result ≡ any (short by (given a_period a_distance a_cells.now) (given b_period b_distance b_cells.now) (up common)) (from start.i (up count)) }
 {
     let mut c = start;
-    let mut n = 0;
-    while n < count {
+    for _n in 0..count {
         let next = coarse::following(
             c, a_cells, a_period, a_distance, b_cells, b_period, b_distance,
         );
@@ -92,7 +90,6 @@ pub fn some_short(
             return true;
         }
         c = next;
-        n += 1;
     }
     false
 }

@@ -6,16 +6,10 @@ use Prim.Native.Nat.{ℕ, zero, suc, ◌+◌, ◌-◌, ◌≤◌, ◌<◌}
 use native.Mathlib.Numerals.{add-one, unary_clauses}
 use native.Mathlib.Omega.{arith}
 use lib.IntN.{ℤ, pos}
-use lib.ListN.{length, get_or, set, take, replicate, length-take}
+use lib.ListN.{length, get_or, set, take, replicate}
 use lib.Seq.{take_all}
 use Rattle.calendar.specs.Lists.{filled}
 use Rattle.batches.specs.Front.{front}
-
--- the list keeps its length
-pub front_length : (f : ℤ → ℤ) (qs p : List ℤ) → length qs ≤ length p → length (front f qs p) ≡ length p
-front_length f [] p h = refl
-front_length f (q ∷ qs) [] h = absurd (omega arith)
-front_length f (q ∷ qs) (x ∷ p) h = ap suc (front_length f qs p (omega arith))
 
 module _ (f : ℤ → ℤ) where
   more : (qs p : List ℤ) (i : ℕ) → i < length qs → length qs ≤ length p
@@ -34,10 +28,6 @@ front-more f qs p i l h e w =
 -- all are answered
 pub front-all : (f : ℤ → ℤ) (qs p : List ℤ) (i : ℕ) {b : List ℤ} → length qs ≤ i → b ≡ front f (take i qs) p → b ≡ front f qs p
 front-all f qs p i l w = w ∙ ap (λ (r : List ℤ). front f r p) (take_all i qs l)
-
--- the list is as long as it was, at each turn
-pub front-whole : (f : ℤ → ℤ) (qs p : List ℤ) (i : ℕ) {b : List ℤ} → length qs ≤ length p → b ≡ front f (take i qs) p → length b ≡ length p
-front-whole f qs p i h w = ap length w ∙ front_length f (take i qs) p (simp length-take (omega arith))
 
 -- over a list of zeros
 pub front-cleared : (f : ℤ → ℤ) (qs : List ℤ) (n : ℕ) → length qs ≤ n → front f qs (replicate n (pos 0)) ≡ filled n (pos 0) (map f qs)

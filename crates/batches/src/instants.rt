@@ -9,16 +9,22 @@ ghost use Rattle.batches.specs.Left.{room, batch_code, answers_left};
 ghost use Rattle.batches.specs.Front.{front};
 
 use calendar::Refusal;
-use questions::{Placing, checked, down};
+use questions::{checked, down};
 use questions_api::told;
 
 // The answer to one instant, where it is known whether the row is sound.
-fn asked(t: i64, sound: bool, cells: &[i32], period: i64, distance: i64) -> Placing
+fn asked(
+    t: i64,
+    sound: bool,
+    cells: &[i32],
+    period: i64,
+    distance: i64,
+) -> Result<Option<(i64, u64)>, Refusal>
     requires { sound ≡ S.sound (given period distance cells.now) }
     ensures { placed_reply result ≡ up_from_instant (given period distance cells.now) t }
 {
     if !sound {
-        return Placing::Refused(Refusal::RowNotSound);
+        return Err(Refusal::RowNotSound);
     }
     checked::up_instant(t, cells, period, distance)
 }
@@ -41,11 +47,9 @@ fn answer_all(
     ensures places { places.new ≡ front (λ t. placed_place (up_from_instant (given period distance cells.now) t)) ts.now places.old }
 {
     let sound = row_check::sound(cells, period, distance);
-    let mut i = 0;
-    while i < ts.len() {
-        let placing = asked(ts[i], sound, cells, period, distance);
+    for (i, t) in ts.iter().enumerate() {
+        let placing = asked(*t, sound, cells, period, distance);
         answers[i] = told::of_placing(placing, &mut labels[i], &mut places[i]);
-        i += 1;
     }
 }
 

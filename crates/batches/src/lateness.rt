@@ -10,7 +10,7 @@ ghost use Rattle.batches.specs.Front.{front};
 
 use calendar::Refusal;
 use floats::Allowance;
-use questions::{Late, checked, down};
+use questions::{checked, down};
 use questions_api::told;
 
 // The answer to one slot, where it is known whether the row is sound.
@@ -22,12 +22,12 @@ fn asked(
     cells: &[i32],
     period: i64,
     distance: i64,
-) -> Late
+) -> Result<bool, Refusal>
     requires { sound ≡ S.sound (given period distance cells.now) }
     ensures { late_reply result ≡ may_be_late (given period distance cells.now) z d allowance }
 {
     if !sound {
-        return Late::Refused(Refusal::RowNotSound);
+        return Err(Refusal::RowNotSound);
     }
     checked::may_be_late(z, d, allowance, cells, period, distance)
 }
@@ -46,11 +46,9 @@ fn answer_all(
     ensures { answers.new ≡ front (λ z. late_code (may_be_late (given period distance cells.now) z d allowance)) zs.now answers.old }
 {
     let sound = row_check::sound(cells, period, distance);
-    let mut i = 0;
-    while i < zs.len() {
-        let late = asked(zs[i], d, allowance, sound, cells, period, distance);
+    for (i, z) in zs.iter().enumerate() {
+        let late = asked(*z, d, allowance, sound, cells, period, distance);
         answers[i] = told::of_late(late);
-        i += 1;
     }
 }
 

@@ -9,7 +9,7 @@ ghost use Rattle.batches.specs.Left.{room, batch_code, answers_left};
 ghost use Rattle.batches.specs.Front.{front};
 
 use calendar::Refusal;
-use questions::{Up, checked, down};
+use questions::{checked, down};
 use questions_api::told;
 
 // Rule 13 for both rows.
@@ -39,12 +39,12 @@ fn asked(
     h_cells: &[i32],
     h_period: i64,
     h_distance: i64,
-) -> Up
+) -> Result<Option<i64>, Refusal>
     requires { sound ≡ S.sound (given g_period g_distance g_cells.now) && S.sound (given h_period h_distance h_cells.now) }
     ensures { up_reply result ≡ up_from_granule (given g_period g_distance g_cells.now) (given h_period h_distance h_cells.now) z }
 {
     if !sound {
-        return Up::Refused(Refusal::RowNotSound);
+        return Err(Refusal::RowNotSound);
     }
     checked::up_granule(
         z, g_cells, g_period, g_distance, h_cells, h_period, h_distance,
@@ -69,13 +69,11 @@ fn answer_all(
     ensures labels { labels.new ≡ front (λ z. up_label (up_from_granule (given g_period g_distance g_cells.now) (given h_period h_distance h_cells.now) z)) zs.now labels.old }
 {
     let sound = both_sound(g_cells, g_period, g_distance, h_cells, h_period, h_distance);
-    let mut i = 0;
-    while i < zs.len() {
+    for (i, z) in zs.iter().enumerate() {
         let up = asked(
-            zs[i], sound, g_cells, g_period, g_distance, h_cells, h_period, h_distance,
+            *z, sound, g_cells, g_period, g_distance, h_cells, h_period, h_distance,
         );
         answers[i] = told::of_up(up, &mut labels[i]);
-        i += 1;
     }
 }
 

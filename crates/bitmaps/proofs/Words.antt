@@ -51,12 +51,9 @@ clear-join f a b c p q i l h = by (dec_lt i b)
     by (yes k) = p i l k
     by (no k) = q i (omega arith) h
 
--- one more, at the end and at the start
+-- one more at the end
 pub clear-more : (f : ℕ → ℕ) (a b : ℕ) → Clear f a b → f b ≡ 0 → Clear f a (b + 1)
 clear-more f a b p e = clear-join f a b (b + 1) p (λ i l h. let s : i ≡ b = omega arith in ap f s ∙ e)
-
-pub clear-less : (f : ℕ → ℕ) (a b : ℕ) → 0 < a → Clear f a b → f (a - 1) ≡ 0 → Clear f (a - 1) b
-clear-less f a b p q e = clear-join f (a - 1) a b (λ i l h. let s : i ≡ a - 1 = omega arith in ap f s ∙ e) q
 
 -- a set bit of the word j is the least set cell, and the greatest
 pub least-in : (words : List ℕ) (c j k s : ℕ) → s < 64 → c ≤ 64 * j + k → Clear (cell words) c (64 * j + k) → Least (bit (get_or words j 0)) k s

@@ -11,13 +11,6 @@ ghost use Rattle.bitmaps.specs.Cells.{Few, Within, FirstWord, LastWord, FirstFro
 // So many words are tested or counted together.
 pub const BLOCK: usize = 16;
 
-// A cell, where there is one.
-#[derive(Clone, Copy)]
-pub enum Place {
-    At(usize),
-    Nowhere,
-}
-
 // The word i, and 0 past the last.
 pub fn word_at(words: &[u64], i: usize) -> u64
     ensures { result ≡ get_or words.now i 0 }
@@ -31,10 +24,8 @@ pub fn ones_in(words: &[u64], i: usize, j: usize) -> usize
     ensures { tally (cell words.now) (64 * i) + result ≡ tally (cell words.now) (64 * j) }
 {
     let mut count: usize = 0;
-    let mut m = i;
-    while m < j {
+    for m in i..j {
         count += words::ones_of(words[m]);
-        m += 1;
     }
     count
 }
@@ -73,10 +64,8 @@ fn bits_in(words: &[u64], i: usize, j: usize) -> u64
     ensures { BitsIn words.now i j result }
 {
     let mut bits: u64 = 0;
-    let mut m = i;
-    while m < j {
+    for m in i..j {
         bits |= words[m];
-        m += 1;
     }
     bits
 }
@@ -101,35 +90,34 @@ fn nonzero_from(words: &[u64], i: usize) -> usize
     requires { i ≤ length words.now }
     ensures { FirstWord words.now i result }
 {
-    let mut j = zeros_from(words, i);
-    while j < words.len() {
+    let start = zeros_from(words, i);
+    for j in start..words.len() {
         if words[j] != 0 {
             return j;
         }
-        j += 1;
     }
-    j
+    words.len()
 }
 
 // The least set cell from c on.
-pub fn first_from(words: &[u64], c: usize) -> Place
+pub fn first_from(words: &[u64], c: usize) -> Option<usize>
     requires { Within words.now c }
     ensures { FirstFrom words.now c result }
 {
     let i = c / 64;
     let rest = word_at(words, i) >> (c % 64);
     if rest != 0 {
-        return Place::At(c + words::lowest(rest));
+        return Some(c + words::lowest(rest));
     }
     if words.len() <= i {
-        return Place::Nowhere;
+        return None;
     }
     let j = nonzero_from(words, i + 1);
     if words.len() <= j {
-        return Place::Nowhere;
+        return None;
     }
     let w = words[j];
-    Place::At(64 * j + words::lowest(w))
+    Some(64 * j + words::lowest(w))
 }
 
 // Where the blocks of zero words begin that end before the word i.
@@ -152,18 +140,17 @@ fn nonzero_below(words: &[u64], i: usize) -> usize
     requires { i ≤ length words.now }
     ensures { LastWord words.now i result }
 {
-    let mut end = zeros_below(words, i);
-    while 0 < end {
-        if words[end - 1] != 0 {
-            return end;
+    let end = zeros_below(words, i);
+    for m in (0..end).rev() {
+        if words[m] != 0 {
+            return m + 1;
         }
-        end -= 1;
     }
-    end
+    0
 }
 
 // The greatest set cell below c.
-pub fn last_below(words: &[u64], c: usize) -> Place
+pub fn last_below(words: &[u64], c: usize) -> Option<usize>
     requires { Within words.now c }
     ensures { LastBelow words.now c result }
 {
@@ -171,14 +158,14 @@ pub fn last_below(words: &[u64], c: usize) -> Place
     let w = word_at(words, i);
     let low = words::low_bits(w, c % 64);
     if low != 0 {
-        return Place::At(64 * i + words::highest(low));
+        return Some(64 * i + words::highest(low));
     }
     let n = nonzero_below(words, i);
     if n == 0 {
-        return Place::Nowhere;
+        return None;
     }
     let v = words[n - 1];
-    Place::At(64 * (n - 1) + words::highest(v))
+    Some(64 * (n - 1) + words::highest(v))
 }
 
 // A word is not zero.

@@ -1,8 +1,6 @@
 // Each question to the rows of the first calendar, answered and refused.
 
-use jogipahn::{
-    Allowance, Calendar, Figured, Heading, Late, Parted, Placing, Refusal, Shortening, Up,
-};
+use jogipahn::{Allowance, Calendar, Heading, Refusal};
 use printing::{print, print_count, print_number};
 use std::io;
 
@@ -23,27 +21,27 @@ fn print_refused(rt: &impl Print, refusal: Refusal) -> io::Result<()> {
     print(rt, b"\n")
 }
 
-fn print_up(rt: &impl Print, up: Up) -> io::Result<()> {
+fn print_up(rt: &impl Print, up: Result<Option<i64>, Refusal>) -> io::Result<()> {
     match up {
-        Up::Label(label) => {
+        Ok(Some(label)) => {
             print_number(rt, label)?;
             print(rt, b"\n")
         }
-        Up::Nothing => print(rt, b"none\n"),
-        Up::Refused(refusal) => print_refused(rt, refusal),
+        Ok(None) => print(rt, b"none\n"),
+        Err(refusal) => print_refused(rt, refusal),
     }
 }
 
-fn print_placing(rt: &impl Print, placing: Placing) -> io::Result<()> {
+fn print_placing(rt: &impl Print, placing: Result<Option<(i64, u64)>, Refusal>) -> io::Result<()> {
     match placing {
-        Placing::At(label, place) => {
+        Ok(Some((label, place))) => {
             print_number(rt, label)?;
             print(rt, b", place ")?;
             print_count(rt, place as usize)?;
             print(rt, b"\n")
         }
-        Placing::Nothing => print(rt, b"none\n"),
-        Placing::Refused(refusal) => print_refused(rt, refusal),
+        Ok(None) => print(rt, b"none\n"),
+        Err(refusal) => print_refused(rt, refusal),
     }
 }
 
@@ -127,11 +125,11 @@ fn ask_down(
         g.distance as i64,
     );
     match parted {
-        Parted::Parts(count) => {
+        Ok(count) => {
             print_count(rt, count)?;
             print(rt, b", which are in")
         }
-        Parted::Refused(refusal) => print_refused(rt, refusal),
+        Err(refusal) => print_refused(rt, refusal),
     }
 }
 
@@ -162,14 +160,14 @@ fn ask_figures(
     print(rt, b"mean spacing of slots: ")?;
     let figured = jogipahn::figures(granules, row_of(pool, row), period, row.distance as i64);
     match figured {
-        Figured::Are(v) => {
+        Ok(v) => {
             if v.mean_spacing == 1.4 && v.mean_length == 1.0 && v.openness < 0.8 {
                 print(rt, b"1.4 days\n")
             } else {
                 print(rt, b"another\n")
             }
         }
-        Figured::Refused(refusal) => print_refused(rt, refusal),
+        Err(refusal) => print_refused(rt, refusal),
     }
 }
 
@@ -178,13 +176,13 @@ fn ask_least_period(rt: &impl Print, pool: &[i32], row: Heading, period: i64) ->
     print(rt, b"least period of slots: ")?;
     let shortening = jogipahn::least_period(row_of(pool, row), period, row.distance as i64);
     match shortening {
-        Shortening::To(shortest) => {
+        Ok(shortest) => {
             print_number(rt, shortest.period)?;
             print(rt, b", tried ")?;
             print_count(rt, shortest.tried as usize)?;
             print(rt, b"\n")
         }
-        Shortening::Refused(refusal) => print_refused(rt, refusal),
+        Err(refusal) => print_refused(rt, refusal),
     }
 }
 
@@ -211,9 +209,9 @@ fn ask_may_be_late(
         row.distance as i64,
     );
     match late {
-        Late::Allowed => print(rt, b"allowed\n"),
-        Late::TooLate => print(rt, b"too late\n"),
-        Late::Refused(refusal) => print_refused(rt, refusal),
+        Ok(true) => print(rt, b"allowed\n"),
+        Ok(false) => print(rt, b"too late\n"),
+        Err(refusal) => print_refused(rt, refusal),
     }
 }
 

@@ -7,7 +7,7 @@ ghost use Rattle.std.specs.Prelude.{◌≡◌};
 ghost use Rattle.calendar.specs.Questions.{given, up_from_instant};
 ghost use Rattle.questions.specs.Answers.{placed_reply};
 
-use jogipahn::{Conversion, Heading, Placing, Reader};
+use jogipahn::{ConversionError, Heading, Reader, Refusal};
 use printing::{print, print_number, print_refusal, print_turn};
 use std::io;
 
@@ -27,7 +27,7 @@ const TABLE: [i32; 30] = [
 // What a conversion leaves in its headings, beside its answer.
 #[derive(Clone, Copy)]
 struct Converted {
-    answer: Conversion,
+    answer: Result<(), ConversionError>,
     headings: [Heading; ENTRIES],
 }
 
@@ -42,7 +42,12 @@ fn convert_records(table: &[i32], headings: [Heading; ENTRIES], pool: &mut [i32]
 }
 
 // The slot of the instant t and its place there, by a reader.
-fn read_up_instant(t: i64, cells: &[i32], period: i64, distance: i64) -> Placing
+fn read_up_instant(
+    t: i64,
+    cells: &[i32],
+    period: i64,
+    distance: i64,
+) -> Result<Option<(i64, u64)>, Refusal>
     ensures { placed_reply result ≡ up_from_instant (given period distance cells.now) t }
 {
     Reader {
@@ -53,10 +58,10 @@ fn read_up_instant(t: i64, cells: &[i32], period: i64, distance: i64) -> Placing
     .up_instant(t)
 }
 
-fn print_conversion(rt: &impl Print, answer: Conversion) -> io::Result<()> {
+fn print_conversion(rt: &impl Print, answer: Result<(), ConversionError>) -> io::Result<()> {
     match answer {
-        Conversion::Converted => print(rt, b"converted\n"),
-        Conversion::Refused(number, entry) => print_refusal(rt, number, entry),
+        Ok(()) => print(rt, b"converted\n"),
+        Err(ConversionError { number, entry }) => print_refusal(rt, number, entry),
     }
 }
 

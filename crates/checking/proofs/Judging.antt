@@ -1,8 +1,9 @@
 -- An entry whose operands' rows are right: what the checks before the comparison give, and what the comparison decides.
 -- Assumes nothing.
+use Rattle.std.specs.Prelude.{Option, Some, None, Ok, Err, IsSome, IfSome}
 use mathlib.Core.Path.{◌≡◌, refl, sym, ◌∙◌, ap, ap₂, subst}
 use mathlib.Core.Logic.{◌↔◌, ◌⊎◌, inl, inr}
-use mathlib.Core.Bool.{Bool, true, false, ◌&&◌, cond}
+use mathlib.Core.Bool.{Bool, true, false, cond}
 use mathlib.Core.List.{List}
 use Prim.Native.Nat.{ℕ, ◌+◌, ◌-◌, ◌*◌, ◌≤◌}
 use native.Mathlib.Omega.{arith}
@@ -24,7 +25,7 @@ use Rattle.calendar.specs.Table.{Entry, entry_at, named}
 use Rattle.calendar.specs.Outcome.{converted, at_rows, judged}
 use Rattle.calendar.specs.Stored.{joined}
 use Rattle.calendar.specs.declared.Refusal.TheVariants.{NothingLabelled, LabelOutsideLimits}
-use Rattle.granules.proofs.Tests.{true≢false, true-or-false, and-iff, leb-iff}
+use Rattle.granules.proofs.Tests.{true≢false, true-or-false, leb-iff}
 use Rattle.granules.proofs.Sound.{sound-limits}
 use Rattle.algebra.specs.Ready.{Operands, Ready}
 use Rattle.algebra.specs.Factor.{Factor}
@@ -37,7 +38,6 @@ use Rattle.kinds.specs.Stands.{row_in}
 use Rattle.entries.specs.declared.Named.{Named}
 use Rattle.entries.specs.Naming.{Names}
 use Rattle.fill_shared.specs.Placed.{over, filled_as}
-use Rattle.fill_shared.specs.declared.Filled.TheVariants.{Labelled}
 use Rattle.match_shared.specs.Matching.{agree}
 use Rattle.operand_checks.specs.declared.Extent.{Extent}
 use Rattle.operand_checks.specs.Admission.{admission}
@@ -52,7 +52,6 @@ use Rattle.standing.specs.Tests.{Ends}
 use Rattle.verdicts.specs.Check.{stands}
 use Rattle.checking.specs.Claims.{Behind, Judges}
 use Rattle.checking.specs.Weighing.{MayBeRight, Weighable, weighed}
-use Rattle.checking.specs.declared.entry.Judged.TheVariants.{Refused, Wrong, Right}
 use Rattle.verdicts.proofs.LeftBy.{left_by, left-length, left-stores, left-operand}
 use Rattle.verdicts.proofs.Numbers.{stands-numbers}
 use Rattle.checking.proofs.Right.{right-iff}
@@ -142,52 +141,55 @@ module _ (l : List Row) (k : ℕ) (headings : List ℕ) (pool : List ℤ) (used 
 
     -- ---- what the comparison decides
 
-    module _ (ok : Bool) (end : ℕ) (may : (ok ≡ true) ↔ MayBeRight x k used headings pool) (ends : ok ≡ true → Ends headings pool k used end) where
-      abbrev row : Row
-      row = row_at headings pool k
+    abbrev row : Row
+    row = row_at headings pool k
 
-      abbrev labels : Bool
-      labels = agree operation row (size operation).period
+    abbrev labels : Bool
+    labels = agree operation row (size operation).period
 
-      -- checks 12 and 11 pass
-      module _ (some-label : unlabelled operation ≡ false) (in-range : labels_in_range operation ≡ true) where
-        answered : converted operation room ≡ answer (least (working operation))
-        answered =
-            let e : filled_as operation ≡ Labelled = rw (some-label, in-range) refl in
-            (all-labelled operation room x passes (filled_as operation) refl e).2
+    -- checks 12 and 11 pass
+    module _ (some-label : unlabelled operation ≡ false) (in-range : labels_in_range operation ≡ true) where
+      answered : converted operation room ≡ answer (least (working operation))
+      answered =
+          let e : filled_as operation ≡ (Ok tt) = rw (some-label, in-range) refl in
+          (all-labelled operation room x passes (filled_as operation) refl e).2
 
-        is-sound : sound (least (working operation)) ≡ true
-        is-sound = (converted-sound operation room (least (working operation)) sounds factor (omega arith) answered).0
+      is-sound : sound (least (working operation)) ≡ true
+      is-sound = (converted-sound operation room (least (working operation)) sounds factor (omega arith) answered).0
 
-        right : (stands headings pool k used (least (working operation)) ≡ true) ↔ (MayBeRight x k used headings pool × (labels ≡ true))
-        right = right-iff headings pool k used heading operation ready some-label in-range is-sound x passes.is
+      right : (stands headings pool k used (least (working operation)) ≡ true) ↔ (MayBeRight x k used headings pool × (labels ≡ true))
+      right = right-iff headings pool k used heading operation ready some-label in-range is-sound x passes.is
 
-        fits-end : ok ≡ true → stands headings pool k used (least (working operation)) ≡ true → end ≡ used + (least (working operation)).period
-        fits-end e t =
-            let same = ((stands-numbers headings pool k used heading (least (working operation))).0 t).1 in
-            (ends e).is-end ∙ ap (λ (r : Row). used + r.period) same
+      fits-end : (end : ℕ) → Ends headings pool k used end → stands headings pool k used (least (working operation)) ≡ true → end ≡ used + (least (working operation)).period
+      fits-end end ends t =
+          let same = ((stands-numbers headings pool k used heading (least (working operation))).0 t).1 in
+          ends.is-end ∙ ap (λ (r : Row). used + r.period) same
 
-        decides : (g : Bool) → (ok && labels) ≡ g → Judges k used headings pool (converted operation room) (cond g (Right end) Wrong)
-        decides true e =
-            let p = (and-iff ok labels).0 e in
-            let t = right.1 (may.0 p.0, p.1) in
-            (least (working operation), answered, t, fits-end p.0 t)
-        decides false e = (least (working operation), answered, by (true-or-false (stands headings pool k used (least (working operation)))))
-          where
-            by : (stands headings pool k used (least (working operation)) ≡ true) ⊎ (stands headings pool k used (least (working operation)) ≡ false)
-                → stands headings pool k used (least (working operation)) ≡ false
-            by (inl t) = let p = right.0 t in absurd (true≢false ((and-iff ok labels).1 (may.1 p.0, p.1)) e)
-            by (inr t) = t
+      wrong : ¬ (MayBeRight x k used headings pool × (labels ≡ true)) → Judges k used headings pool (converted operation room) (Ok None)
+      wrong h = (least (working operation), answered, by (true-or-false (stands headings pool k used (least (working operation)))))
+        where
+          by : (stands headings pool k used (least (working operation)) ≡ true) ⊎ (stands headings pool k used (least (working operation)) ≡ false)
+              → stands headings pool k used (least (working operation)) ≡ false
+          by (inl t) = absurd (h (right.0 t))
+          by (inr t) = t
 
-      here : Judges k used headings pool (converted operation room) (weighed operation row ok end)
+      decides : (g : Bool) → labels ≡ g → (claim : Option ℕ) → IsSome claim ↔ MayBeRight x k used headings pool → IfSome claim (Ends headings pool k used)
+          → Judges k used headings pool (converted operation room) (Ok (cond g claim None))
+      decides false e claim may ends = wrong (λ h. true≢false h.1 e)
+      decides true e None may ends = wrong (λ h. true≢false (may.1 h.0) refl)
+      decides true e (Some end) may ends = let t = right.1 (may.0 refl, e) in (least (working operation), answered, t, fits-end end ends t)
+
+    -- the claim, where it may be right
+    module _ (claim : Option ℕ) (may : IsSome claim ↔ MayBeRight x k used headings pool) (ends : IfSome claim (Ends headings pool k used)) where
+      here : Judges k used headings pool (converted operation room) (weighed operation row claim)
       here = by (unlabelled operation) (labels_in_range operation) refl refl
         where
           by : (u i : Bool) → unlabelled operation ≡ u → labels_in_range operation ≡ i
               → Judges k used headings pool (converted operation room)
-              (cond u (Refused NothingLabelled) (cond i (cond (ok && labels) (Right end) Wrong) (Refused LabelOutsideLimits)))
+              (cond u (Err NothingLabelled) (cond i (Ok (cond labels claim None)) (Err LabelOutsideLimits)))
           by true i e g = none-labelled operation room x passes (filled_as operation) refl (rw e refl)
           by false false e g = out_of_range operation room x passes (filled_as operation) refl (rw (e, g) refl)
-          by false true e g = decides e g (ok && labels) refl
+          by false true e g = decides e g labels refl claim may ends
 
-      pub judged-entry : Judges k used headings pool (converted (at_rows l o) room) (weighed operation row ok end)
-      judged-entry = subst (λ (p : Operation Row). Judges k used headings pool (converted p room) (weighed operation row ok end)) over-rows here
+      pub judged-entry : Judges k used headings pool (converted (at_rows l o) room) (weighed operation row claim)
+      judged-entry = subst (λ (p : Operation Row). Judges k used headings pool (converted p room) (weighed operation row claim)) over-rows here

@@ -1,6 +1,7 @@
 -- When the heading and the row of an entry are those that a conversion would leave.
 -- Assumes nothing.
-use mathlib.Core.Path.{◌≡◌, sym, ◌∙◌, ap}
+use Rattle.std.specs.Prelude.{Option, Some, None, IsSome, IfSome}
+use mathlib.Core.Path.{◌≡◌, refl, sym, ◌∙◌, ap}
 use mathlib.Core.Logic.{◌↔◌}
 use mathlib.Core.Bool.{true, false}
 use mathlib.Core.List.{List}
@@ -19,7 +20,7 @@ use Rattle.calendar.specs.Distance.{size}
 use Rattle.calendar.specs.Compute.{working}
 use Rattle.calendar.specs.Checks.{unlabelled, labels_in_range}
 use Rattle.calendar.specs.Least.{least}
-use Rattle.granules.proofs.Tests.{and-iff, eqb-iff}
+use Rattle.granules.proofs.Tests.{true≢false, and-iff, eqb-iff}
 use Rattle.algebra.specs.Ready.{Ready}
 use Rattle.operand_checks.specs.declared.Extent.{Extent}
 use Rattle.operand_checks.specs.Admission.{extent}
@@ -59,8 +60,10 @@ module _ (headings : List ℕ) (pool : List ℤ) (k used : ℕ) (b : heading_len
       )
 
   -- a row that may be right stands in the pool
-  pub claim-stands : row_stands headings pool k used ≡ true → (end : ℕ) → Ends headings pool k used end → Stands pool (operand_of headings k)
-  claim-stands e end ends =
+  pub claim-stands : row_stands headings pool k used ≡ true → (claim : Option ℕ) → IsSome claim → IfSome claim (Ends headings pool k used)
+      → Stands pool (operand_of headings k)
+  claim-stands e None some ends = absurd (true≢false some refl)
+  claim-stands e (Some end) some ends =
       let (start, passes, count) = row-iff.0 e in
       record { is-sound = passes.0; fits = omega (arith, start, ends.is-end, ends.fits) }
 

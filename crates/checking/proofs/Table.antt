@@ -1,5 +1,6 @@
 -- The check of a table's entries, one after the other, and of the rest.
 -- Assumes nothing.
+use Rattle.std.specs.Prelude.{Some, None, Ok, Err}
 use mathlib.Core.Path.{◌≡◌, refl, sym, ◌∙◌, ap, ap₂}
 use mathlib.Core.Logic.{⊎_elim}
 use mathlib.Core.Bool.{Bool, true, false, ◌&&◌, cond}
@@ -37,7 +38,6 @@ use Rattle.verdicts.specs.declared.Verdict.TheVariants.{Accepted, Refused, Wrong
 use Rattle.verdicts.proofs.Begun.{begins-none, stands-iff}
 use Rattle.verdicts.proofs.Passing.{check_after, check-zero, check-suc}
 use Rattle.checking.specs.Claims.{Behind, EntryClaimed, TableClaimed, Judges}
-use Rattle.checking.specs.declared.entry.Judged as J
 
 -- ---- the rest
 
@@ -134,7 +134,7 @@ module _ (t : List ℤ) (n : ℕ) (headings : List ℕ) (pool : List ℤ) (used 
         ∙ check-suc t headings pool d.in-pool (n - (k + 1)) k l
         ∙ ap (check_after t headings pool d.in-pool (n - (k + 1)) k l) (ap (λ (i : ℕ). judged l (length pool - i) (entry_at t k)) (sym c.behind.ends) ∙ j)
 
-    pub entry-refused : (m : Refusal) → Judges k used headings pool reply (J.TheVariants.Refused m) → Refused (number_of m) k ≡ check_entries t headings pool n 0 []
+    pub entry-refused : (m : Refusal) → Judges k used headings pool reply (Err m) → Refused (number_of m) k ≡ check_entries t headings pool n 0 []
     entry-refused m j = sym (next-is (refused (number_of m)) j)
 
     -- by the test of its heading and its row
@@ -145,10 +145,10 @@ module _ (t : List ℤ) (n : ℕ) (headings : List ℕ) (pool : List ℤ) (used 
         ∙ ap (λ (x : Bool). cond x (check_entries t headings pool (n - (k + 1)) (suc k) (l ++ (r ∷ []))) (Wrong k))
         (ap (λ (i : ℕ). stands headings pool k i r) (sym c.behind.ends) ∙ e)
 
-    pub entry-wrong : Judges k used headings pool reply J.TheVariants.Wrong → Wrong k ≡ check_entries t headings pool n 0 []
+    pub entry-wrong : Judges k used headings pool reply (Ok None) → Wrong k ≡ check_entries t headings pool n 0 []
     entry-wrong (r, j, e) = sym (tested r j false e)
 
-    pub entry-right : (end : ℕ) → Judges k used headings pool reply (J.TheVariants.Right end) → Checked t n headings pool end (k + 1)
+    pub entry-right : (end : ℕ) → Judges k used headings pool reply (Ok (Some end)) → Checked t n headings pool end (k + 1)
     entry-right end (r, j, e, is-end) =
         let q = entry-sound l (length pool - used) (entry_at t k) r c.behind.all_sound (omega (arith, d.in-pool)) j in
         let whole = (sound-valid r q.0).whole in

@@ -1,63 +1,58 @@
 -- A claimed row beside the working row: what the comparison decides.
 -- Assumes nothing.
+use Rattle.std.specs.Prelude.{Option, Err, Ok, Some, None, is_some}
 use mathlib.Core.Path.{◌≡◌, refl, sym, ◌∙◌, ap}
-use mathlib.Core.Bool.{Bool, true, false, ◌&&◌, cond}
-use mathlib.Core.List.{List}
-use Prim.Native.Nat.{ℕ, zero, suc, ◌≤◌, ◌<◌}
+use mathlib.Core.Bool.{Bool, true, false, cond}
+use Prim.Native.Nat.{ℕ, ◌<◌}
 use native.Mathlib.Omega.{arith}
-use lib.IntN.{ℤ, pos, nat_abs}
-use lib.Signed.{◌≤ℤ◌}
-use mir.Syntax.{w64}
-use mir.Val.{SFits, of_z, to_z}
-use mir.ValLaws.{to_z-of_z}
-use Rattle.integers.specs.Parts.{up}
-use Rattle.integers.proofs.Linear.{ints}
 use Rattle.calendar.specs.Meaning.{Row}
 use Rattle.calendar.specs.Operation.{Operation}
 use Rattle.calendar.specs.Operation.Operation.{bottom}
 use Rattle.calendar.specs.Distance.{size}
 use Rattle.calendar.specs.Compute.{result}
 use Rattle.calendar.specs.Checks.{unlabelled, labels_in_range}
-use Rattle.calendar.specs.Sound.{sound}
 use Rattle.calendar.specs.declared.Refusal.TheVariants.{NothingLabelled, LabelOutsideLimits}
+use Rattle.granules.proofs.Tests.{true≢false}
 use Rattle.kinds.specs.declared.Kind.{Kind}
 use Rattle.kinds.specs.declared.Kind.TheVariants.{Bottom, Group, Shift, Alter, Combine, Anchor, Select, ByLabels, Renumber}
-use Rattle.kinds.specs.declared.Operand.{Operand}
-use Rattle.kinds.specs.Operations.{operation_of, operands, SoundFirst}
-use Rattle.kinds.specs.Stands.{row_in, Stands}
-use Rattle.entries.proofs.Naturals.{nat_abs-up}
-use Rattle.fill_shared.specs.Placed.{over}
-use Rattle.match_shared.specs.declared.Matched.TheVariants.{Same, Different, Unlabelled, OutOfRange}
+use Rattle.kinds.specs.Operations.{operation_of, operands}
 use Rattle.match_shared.specs.Matching.{agree, matched_as}
-use Rattle.match_shared.specs.Claims.{Claimed}
-use Rattle.operand_checks.specs.declared.Extent.{Extent}
-use Rattle.checking.specs.Weighing.{Weighable, judged_as, weighed}
-use Rattle.checking.specs.declared.entry.Judged.TheVariants.{Refused, Wrong, Right}
+use Rattle.checking.specs.Weighing.{judged_as, weighed}
 
 -- ---- by the comparison
 
+none-either : (g : Bool) → cond {A = Option ℕ} g None None ≡ None
+none-either true = refl
+none-either false = refl
+
 -- the row itself is compared
-pub weighed-row : (o : Operation Row) (r : Row) (ok : Bool) (end : ℕ) → ok ≡ true → judged_as (matched_as o r) ok end ≡ weighed o r ok end
-weighed-row o r ok end e = rw e (by (unlabelled o) (labels_in_range o) (agree o r (size o).period))
+pub weighed-row : (o : Operation Row) (r : Row) (claim : Option ℕ) → judged_as (matched_as o r) claim ≡ weighed o r claim
+weighed-row o r claim = by (unlabelled o) (labels_in_range o) (agree o r (size o).period)
   where
     by : (u l g : Bool)
-        → judged_as (cond u Unlabelled (cond l (cond g Same Different) OutOfRange)) true end
-        ≡ cond u (Refused NothingLabelled) (cond l (cond (true && g) (Right end) Wrong) (Refused LabelOutsideLimits))
+        → judged_as (cond u (Err NothingLabelled) (cond l (Ok g) (Err LabelOutsideLimits))) claim
+        ≡ cond u (Err NothingLabelled) (cond l (Ok (cond g claim None)) (Err LabelOutsideLimits))
     by true l g = refl
-    by false true true = refl
-    by false true false = refl
+    by false true g = refl
     by false false g = refl
 
--- another row stands in for one that cannot be right
-pub weighed-other : (o : Operation Row) (r s : Row) (ok : Bool) (end : ℕ) → ok ≡ false → judged_as (matched_as o s) ok end ≡ weighed o r ok end
-weighed-other o r s ok end e = rw e (by (unlabelled o) (labels_in_range o) (agree o s (size o).period))
+-- a row that cannot be right is not
+weighed-none : (o : Operation Row) (r : Row)
+    → weighed o r None ≡ cond (unlabelled o) (Err NothingLabelled) (cond (labels_in_range o) (Ok None) (Err LabelOutsideLimits))
+weighed-none o r =
+    ap (λ (x : Option ℕ). cond (unlabelled o) (Err NothingLabelled) (cond (labels_in_range o) (Ok x) (Err LabelOutsideLimits)))
+    (none-either (agree o r (size o).period))
+
+-- another stands in for it
+pub weighed-other : (o : Operation Row) (r s : Row) (claim : Option ℕ) → is_some claim ≡ false → judged_as (matched_as o s) claim ≡ weighed o r claim
+weighed-other o r s (Some end) e = absurd (true≢false refl e)
+weighed-other o r s None e = by (unlabelled o) (labels_in_range o) (agree o s (size o).period) ∙ sym (weighed-none o r)
   where
     by : (u l g : Bool)
-        → judged_as (cond u Unlabelled (cond l (cond g Same Different) OutOfRange)) false end
-        ≡ cond u (Refused NothingLabelled) (cond l (cond (false && agree o r (size o).period) (Right end) Wrong) (Refused LabelOutsideLimits))
+        → judged_as (cond u (Err NothingLabelled) (cond l (Ok g) (Err LabelOutsideLimits))) None
+        ≡ cond u (Err NothingLabelled) (cond l (Ok None) (Err LabelOutsideLimits))
     by true l g = refl
-    by false true true = refl
-    by false true false = refl
+    by false true g = ap Ok (none-either g)
     by false false g = refl
 
 -- ---- bottom has labels, and none is outside the limits
@@ -66,52 +61,14 @@ bottom-labels : (unlabelled bottom ≡ false) × (labels_in_range bottom ≡ tru
 unfolding unlabelled labels_in_range result size
 bottom-labels = (refl, refl)
 
-pub weighed-bottom : (kind : Kind) (a b r : Row) (ok : Bool) (end : ℕ) → operands kind < 1 → ok ≡ false → Wrong ≡ weighed (operation_of kind a b) r ok end
-weighed-bottom Bottom a b r ok end h e = rw (e, bottom-labels.0, bottom-labels.1)
-weighed-bottom (Group x) a b r ok end h e = absurd (omega arith)
-weighed-bottom (Shift x) a b r ok end h e = absurd (omega arith)
-weighed-bottom (Alter w) a b r ok end h e = absurd (omega arith)
-weighed-bottom Combine a b r ok end h e = absurd (omega arith)
-weighed-bottom Anchor a b r ok end h e = absurd (omega arith)
-weighed-bottom (Select s) a b r ok end h e = absurd (omega arith)
-weighed-bottom (ByLabels s) a b r ok end h e = absurd (omega arith)
-weighed-bottom (Renumber x) a b r ok end h e = absurd (omega arith)
-
--- ---- what the comparison asks
-
-first-sound : (n : ℕ) (a b : Row) → 1 ≤ n → SoundFirst n a b → sound a ≡ true
-first-sound zero a b h s = absurd (omega arith)
-first-sound (suc n) a b h s = s.0
-
-module _ (kind : Kind) (x : Extent) (a b : Operand) (pool : List ℤ) (w : Weighable kind x a b pool) (p : SFits w64 x.period) (s : SFits w64 x.span) where
-  period-is : x.period ≡ pos (size (over kind pool a b)).period
-  period-is = ap (λ (e : Extent). e.period) (sym w.is)
-
-  pub period-low : pos 0 ≤ℤ x.period
-  period-low = rw period-is (simp ints (omega arith))
-
-  -- the working period, as the machine holds it
-  period-read : nat_abs (to_z w64 (of_z w64 x.period)) ≡ (size (over kind pool a b)).period
-  period-read = ap nat_abs (to_z-of_z w64 x.period p) ∙ nat_abs-up period-low ∙ ap up period-is
-
-  pub claimed : (r : Operand) → pos 0 ≤ℤ r.period → Stands pool r
-      → Claimed kind a b r (to_z w64 (of_z w64 x.span)) (nat_abs (to_z w64 (of_z w64 x.period))) pool
-  claimed r low stands = record {
-    a-period = w.a-period;
-    b-period = w.b-period;
-    r-period = low;
-    a-end = w.a-end;
-    b_end = w.b_end;
-    claim = stands;
-    room = omega (arith, period-read, w.room);
-    at-most = w.at-most;
-    is-span = to_z-of_z w64 x.span s ∙ ap (λ (e : Extent). e.span) (sym w.is);
-    is-period = period-read;
-  }
-
-  -- the first operand stands
-  pub first-stands : 1 ≤ operands kind → Stands pool a
-  first-stands h = record {
-    is-sound = first-sound (operands kind) (row_in pool a) (row_in pool b) h w.fillable.sounds;
-    fits = w.a-end;
-  }
+pub weighed-bottom : (kind : Kind) (a b r : Row) (claim : Option ℕ) → operands kind < 1 → is_some claim ≡ false → Ok None ≡ weighed (operation_of kind a b) r claim
+weighed-bottom kind a b r (Some end) h e = absurd (true≢false refl e)
+weighed-bottom Bottom a b r None h e = sym (weighed-none bottom r ∙ rw (bottom-labels.0, bottom-labels.1) refl)
+weighed-bottom (Group x) a b r None h e = absurd (omega arith)
+weighed-bottom (Shift x) a b r None h e = absurd (omega arith)
+weighed-bottom (Alter w) a b r None h e = absurd (omega arith)
+weighed-bottom Combine a b r None h e = absurd (omega arith)
+weighed-bottom Anchor a b r None h e = absurd (omega arith)
+weighed-bottom (Select s) a b r None h e = absurd (omega arith)
+weighed-bottom (ByLabels s) a b r None h e = absurd (omega arith)
+weighed-bottom (Renumber x) a b r None h e = absurd (omega arith)

@@ -1,5 +1,6 @@
 -- What the check of finished lists is given, and what it comes to at an entry.
-use Rattle.std.specs.Prelude.{◌≡◌, true, false, ℕ, ◌+◌, ◌*◌, ◌≤◌, ◌<◌, ℤ, length}
+use Rattle.calendar.specs.declared.Refusal.{Refusal}
+use Rattle.std.specs.Prelude.{◌≡◌, true, false, ℕ, ◌+◌, ◌*◌, ◌≤◌, ◌<◌, ℤ, length, Some, None, Ok, Err, Option, Result}
 use mathlib.Core.List.{List, Memᴰ}
 use Rattle.calendar.specs.Limits.{pool_limit, entry_limit, heading_length}
 use Rattle.calendar.specs.Meaning.{Row}
@@ -13,8 +14,6 @@ use Rattle.entries.specs.declared.Named.{Named}
 use Rattle.entries.specs.Naming.{Names}
 use Rattle.verdicts.specs.Begins.{Begins}
 use Rattle.verdicts.specs.Check.{stands}
-use Rattle.checking.specs.declared.entry.Judged.{Judged}
-use Rattle.checking.specs.declared.entry.Judged.TheVariants.{Refused, Wrong, Right}
 
 -- the headings and rows of the first entries are right, and end before the cell `used`
 pub record Behind (l : List Row) (headings : List ℕ) (pool : List ℤ) (used : ℕ) : Type 0 where
@@ -45,7 +44,7 @@ pub record TableClaimed (t : List ℤ) (n : ℕ) (headings : List ℕ) (pool : L
   pub in-pool : length pool ≤ pool_limit
 
 -- what the check of the entry k comes to, whose conversion has the reply x
-abbrev pub Judges : ℕ → ℕ → List ℕ → List ℤ → Reply Row → Judged → Type 0
-Judges k used headings pool x (Refused n) = x ≡ refused (number_of n)
-Judges k used headings pool x Wrong = (r : Row) × (x ≡ answer r) × (stands headings pool k used r ≡ false)
-Judges k used headings pool x (Right e) = (r : Row) × (x ≡ answer r) × (stands headings pool k used r ≡ true) × (e ≡ used + r.period)
+abbrev pub Judges : ℕ → ℕ → List ℕ → List ℤ → Reply Row → Result (Option ℕ) Refusal → Type 0
+Judges k used headings pool x (Err n) = x ≡ refused (number_of n)
+Judges k used headings pool x (Ok None) = (r : Row) × (x ≡ answer r) × (stands headings pool k used r ≡ false)
+Judges k used headings pool x (Ok (Some e)) = (r : Row) × (x ≡ answer r) × (stands headings pool k used r ≡ true) × (e ≡ used + r.period)

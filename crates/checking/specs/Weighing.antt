@@ -1,5 +1,6 @@
 -- A claimed row by its heading and its cells, and beside the working row of its entry.
-use Rattle.std.specs.Prelude.{◌≡◌, Bool, true, ◌&&◌, cond, List, ℕ, ◌*◌, ◌≤◌, ℤ, pos, ◌≤ℤ◌, length}
+use Rattle.calendar.specs.declared.Refusal.{Refusal}
+use Rattle.std.specs.Prelude.{◌≡◌, Bool, true, cond, List, ℕ, ◌*◌, ◌≤◌, ℤ, pos, ◌≤ℤ◌, length, Err, Ok, Result, None, Option}
 use Rattle.integers.specs.Parts.{up}
 use Rattle.calendar.specs.Limits.{pool_limit}
 use Rattle.calendar.specs.Meaning.{Row}
@@ -12,15 +13,11 @@ use Rattle.kinds.specs.declared.Operand.{Operand}
 use Rattle.kinds.specs.Stands.{end, row_in}
 use Rattle.fill_shared.specs.Fillable.{Fillable}
 use Rattle.fill_shared.specs.Placed.{over}
-use Rattle.match_shared.specs.declared.Matched.{Matched}
-use Rattle.match_shared.specs.declared.Matched.TheVariants.{Same, Different, Unlabelled, OutOfRange}
 use Rattle.match_shared.specs.Matching.{agree}
 use Rattle.operand_checks.specs.declared.Extent.{Extent}
 use Rattle.operand_checks.specs.Admission.{extent}
 use Rattle.conversion.specs.Shows.{period_at, distance_at}
 use Rattle.standing.specs.Tests.{row_stands}
-use Rattle.checking.specs.declared.entry.Judged.{Judged}
-use Rattle.checking.specs.declared.entry.Judged.TheVariants.{Refused, Wrong, Right}
 
 -- a turn is a whole number of turns of p and n
 abbrev pub Multiple : ℕ → ℕ → ℕ → ℕ → Type 0
@@ -43,14 +40,12 @@ pub record Weighable (kind : Kind) (x : Extent) (a b : Operand) (pool : List ℤ
   pub is : extent (over kind pool a b) ≡ x
 
 -- by what a comparison comes to, with a row that may be right or not
-abbrev pub judged_as : Matched → Bool → ℕ → Judged
-judged_as Unlabelled ok end = Refused NothingLabelled
-judged_as OutOfRange ok end = Refused LabelOutsideLimits
-judged_as Different ok end = Wrong
-judged_as Same ok end = cond ok (Right end) Wrong
+abbrev pub judged_as : Result Bool Refusal → Option ℕ → Result (Option ℕ) Refusal
+judged_as (Err x) claim = Err x
+judged_as (Ok same) claim = Ok (cond same claim None)
 
 -- checks 12 and 11; then r is right if it may be and agrees with the working row
-abbrev pub weighed : Operation Row → Row → Bool → ℕ → Judged
-weighed o r ok end =
-    cond (unlabelled o) (Refused NothingLabelled)
-    (cond (labels_in_range o) (cond (ok && agree o r (size o).period) (Right end) Wrong) (Refused LabelOutsideLimits))
+abbrev pub weighed : Operation Row → Row → Option ℕ → Result (Option ℕ) Refusal
+weighed o r claim =
+    cond (unlabelled o) (Err NothingLabelled)
+    (cond (labels_in_range o) (Ok (cond (agree o r (size o).period) claim None)) (Err LabelOutsideLimits))

@@ -3,7 +3,7 @@
 // The pool holds the claimed row and not the working row, so the claimed row is known by what it means: it is right exactly if it is least, the working turn is
 // a whole number of its turns, and it has the labels of the result at each instant of the working turn.
 
-ghost use Rattle.std.specs.Prelude.{◌≡◌, true, ◌↔◌, List, ℕ, ◌+◌, ◌-◌, ◌*◌, ◌≤◌, pos, ◌≤ℤ◌, length, take};
+ghost use Rattle.std.specs.Prelude.{◌≡◌, true, ◌↔◌, List, ℕ, ◌+◌, ◌-◌, ◌*◌, ◌≤◌, pos, ◌≤ℤ◌, length, take, IsSome, IfSome};
 ghost use Rattle.calendar.specs.Meaning.{Row};
 ghost use Rattle.calendar.specs.Operation.{Operation};
 ghost use Rattle.calendar.specs.Limits.{pool_limit, heading_length};
@@ -19,20 +19,10 @@ ghost use Rattle.checking.specs.Claims.{Behind, EntryClaimed, NamedClaimed, Judg
 ghost use Rattle.checking.specs.Weighing.{Multiple, MayBeRight, Weighable, judged_as, weighed};
 
 use calendar::Refusal;
-use entries::{Named, Reading};
+use entries::Named;
 use kinds::{Kind, Operand};
-use match_shared::Matched;
-use operand_checks::{Checked, Extent};
+use operand_checks::Extent;
 use row_entry::HEADING_LENGTH;
-use standing::Stood;
-
-// What the check of an entry comes to: a refusal, its heading or its row is wrong, or its row ends before that cell.
-#[derive(Clone, Copy)]
-pub enum Judged {
-    Refused(Refusal),
-    Wrong,
-    Right(usize),
-}
 
 // The row whose heading is the j-th of the first k, or one of no cells.
 fn operand_before(headings: &[u32], k: usize, j: usize) -> Operand
@@ -63,27 +53,22 @@ fn is_multiple(period: u32, distance: u32, p: u32, n: u32) -> bool
     times * n == distance
 }
 
-// Whether the claimed row of the entry k may be right, by its heading and its own cells: it stands behind the rows before it, is least with the granules that
-// its heading says, and the working turn is a whole number of its turns. `end` is the cell behind it then.
-fn claim_of(extent: Extent, k: usize, used: usize, headings: &[u32], pool: &[i32]) -> Stood
+// The cell behind the claimed row of the entry k, where that row may be right by its heading and its own cells: it stands
+// behind the rows before it, is least with the granules that its heading says, and the working turn is a whole number of
+// its turns.
+fn claim_of(extent: Extent, k: usize, used: usize, headings: &[u32], pool: &[i32]) -> Option<usize>
     requires heading_length_in_bounds { heading_length * k + heading_length ≤ length headings.now }
     requires used_in_bounds { (used ≤ length pool.now) × (length pool.now ≤ pool_limit) }
     requires pos_bound { (pos 0 ≤ℤ extent.period) × (extent.period ≤ℤ pos pool_limit) }
     requires pos_bound_2 { (pos 0 ≤ℤ extent.distance) × (extent.distance ≤ℤ pos pool_limit) }
-    ensures test { (result.ok ≡ true) ↔ MayBeRight extent k used headings.now pool.now }
-    ensures ends { result.ok ≡ true → Ends headings.now pool.now k used result.end }
+    ensures test { IsSome result ↔ MayBeRight extent k used headings.now pool.now }
+    ensures ends { IfSome result (Ends headings.now pool.now k used) }
 {
-    let row = standing::row_stands(headings, pool, k, used);
-    if !row.ok {
-        return row;
-    }
+    let end = standing::row_stands(headings, pool, k, used)?;
     let at = HEADING_LENGTH * k;
     let period = row_entry::number(extent.period);
     let distance = row_entry::number(extent.distance);
-    Stood {
-        ok: is_multiple(period, distance, headings[at + 1], headings[at + 2]),
-        end: row.end,
-    }
+    is_multiple(period, distance, headings[at + 1], headings[at + 2]).then_some(end)
 }
 
 // How many operands a kind names.
@@ -104,21 +89,11 @@ fn operands(kind: Kind) -> u32
 }
 
 // What a comparison comes to, with a row that may be right or one that stands in for it.
-fn judge(matched: Matched, claim: Stood) -> Judged
-    ensures { result ≡ judged_as matched claim.ok claim.end }
+fn judge(matched: Result<bool, Refusal>, claim: Option<usize>) -> Result<Option<usize>, Refusal>
+    ensures { result ≡ judged_as matched claim }
 {
-    match matched {
-        Matched::Unlabelled => Judged::Refused(Refusal::NothingLabelled),
-        Matched::OutOfRange => Judged::Refused(Refusal::LabelOutsideLimits),
-        Matched::Different => Judged::Wrong,
-        Matched::Same => {
-            if claim.ok {
-                Judged::Right(claim.end)
-            } else {
-                Judged::Wrong
-            }
-        }
-    }
+    let same = matched?;
+    Ok(if same { claim } else { None })
 }
 
 // Compares the claimed row r with the working row. Where it cannot be right the first operand stands in for it, so that checks 12 and 11 come first; bottom,
@@ -130,25 +105,31 @@ fn weigh(
     a: Operand,
     b: Operand,
     r: Operand,
-    claim: Stood,
-) -> Judged
+    claim: Option<usize>,
+) -> Result<Option<usize>, Refusal>
     requires weighable { Weighable kind extent a b pool.now }
-    requires pos_bound { claim.ok ≡ true → (pos 0 ≤ℤ r.period) × Stands pool.now r }
-    ensures { result ≡ weighed (over kind pool.now a b) (row_in pool.now r) claim.ok claim.end }
+    requires pos_bound { IsSome claim → (pos 0 ≤ℤ r.period) × Stands pool.now r }
+    ensures { result ≡ weighed (over kind pool.now a b) (row_in pool.now r) claim }
 {
-    if claim.ok {
+    if claim.is_some() {
         let with_row = matching::compare(kind, extent.span, extent.period as usize, pool, a, b, r);
         return judge(with_row, claim);
     }
     if operands(kind) < 1 {
-        return Judged::Wrong;
+        return Ok(None);
     }
     let without = matching::compare(kind, extent.span, extent.period as usize, pool, a, b, a);
     judge(without, claim)
 }
 
 // Checks the entry of an operation over the rows of earlier entries.
-fn check_named(named: Named, k: usize, used: usize, headings: &[u32], pool: &[i32]) -> Judged
+fn check_named(
+    named: Named,
+    k: usize,
+    used: usize,
+    headings: &[u32],
+    pool: &[i32],
+) -> Result<Option<usize>, Refusal>
     requires { NamedClaimed named k headings.now pool.now used }
     ensures { (l : List Row) (o : Operation ℕ) → length l ≡ k → Behind l headings.now pool.now used → Names k o named → Judges k used headings.now pool.now (converted (at_rows l o) (length pool.now - used)) result }
 {
@@ -156,26 +137,24 @@ fn check_named(named: Named, k: usize, used: usize, headings: &[u32], pool: &[i3
     let a = operand_before(headings, k, named.first);
     let b = operand_before(headings, k, named.second);
     let room = pool.len() - used;
-    let checked = row_entry::check_in(kind, room as i64, pool, a, b);
-    match checked {
-        Checked::Refused(n) => Judged::Refused(n),
-        Checked::Passed(extent) => {
-            let claim = claim_of(extent, k, used, headings, pool);
-            let r = row_entry::operand_at(headings, k);
-            weigh(kind, extent, pool, a, b, r, claim)
-        }
-    }
+    let extent = row_entry::check_in(kind, room as i64, pool, a, b)?;
+    let claim = claim_of(extent, k, used, headings, pool);
+    let r = row_entry::operand_at(headings, k);
+    weigh(kind, extent, pool, a, b, r, claim)
 }
 
 // Checks the entry k behind the rows of the entries before it, which are right and end before the cell `used`.
-pub fn check_entry(table: &[i32], k: usize, used: usize, headings: &[u32], pool: &[i32]) -> Judged
+pub fn check_entry(
+    table: &[i32],
+    k: usize,
+    used: usize,
+    headings: &[u32],
+    pool: &[i32],
+) -> Result<Option<usize>, Refusal>
     requires { EntryClaimed table.now k headings.now pool.now used }
     ensures { (l : List Row) → length l ≡ k → Behind l headings.now pool.now used → Judges k used headings.now pool.now (judged l (length pool.now - used) (entry_at table.now k)) result }
 {
     let e = entries::entry_at(table, k);
-    let reading = entries::read(e, k);
-    match reading {
-        Reading::Refused(refusal) => Judged::Refused(refusal),
-        Reading::Named(named) => check_named(named, k, used, headings, pool),
-    }
+    let named = entries::read(e, k)?;
+    check_named(named, k, used, headings, pool)
 }

@@ -8,8 +8,6 @@ ghost use Rattle.standing.specs.Tests.{all_zero, all_empty};
 ghost use Rattle.verdicts.specs.Check as Check;
 ghost use Rattle.checking.specs.Claims.{TableClaimed};
 
-use entries::Begun;
-use entry::Judged;
 use row_entry::HEADING_LENGTH;
 
 mod entry;
@@ -37,9 +35,9 @@ fn check_entries(table: &[i32], n: usize, headings: &[u32], pool: &[i32]) -> Ver
     for k in 0..n {
         let judged = entry::check_entry(table, k, used, headings, pool);
         match judged {
-            Judged::Refused(refusal) => return Verdict::Refused(refusal.number(), k as u32),
-            Judged::Wrong => return Verdict::Wrong(k as u32),
-            Judged::Right(end) => used = end,
+            Err(refusal) => return Verdict::Refused(refusal.number(), k as u32),
+            Ok(None) => return Verdict::Wrong(k as u32),
+            Ok(Some(end)) => used = end,
         }
     }
     if rest_is_empty(headings, pool, n, used) {
@@ -58,7 +56,7 @@ pub fn check(table: &[i32], headings: &[u32], pool: &[i32]) -> Verdict
 {
     let begun = entries::begin(table, headings.len() / HEADING_LENGTH, pool.len());
     match begun {
-        Begun::Refused(refusal) => Verdict::Refused(refusal.number(), 0),
-        Begun::Entries(n) => check_entries(table, n, headings, pool),
+        Err(refusal) => Verdict::Refused(refusal.number(), 0),
+        Ok(n) => check_entries(table, n, headings, pool),
     }
 }

@@ -53,16 +53,15 @@ left-length n = by (leb 66 n) refl
 -- of a list of n numbers those before i are written
 pub record Written (n i : ℕ) (l : List ℤ) : Type 0 where
   pub whole : length l ≡ n
-  pub at-most : i ≤ n
   pub is : (k : ℕ) → k < i → get_or l k (pos 0) ≡ get_or (table_left n) k (pos 0)
 
 pub written_none : (l : List ℤ) → Written (length l) 0 l
-written_none l = record { whole = refl; at-most = omega arith; is = λ k h. absurd (omega arith) }
+written_none l = record { whole = refl; is = λ k h. absurd (omega arith) }
 
 module _ {n i : ℕ} {l : List ℤ} (w : Written n i l) where
   pub written-more : i < n → (z : ℤ) → z ≡ get_or (table_left n) i (pos 0) → Written n (i + 1) (set l i z)
   written-more h z e =
-      record { whole = length-set l i z ∙ w.whole; at-most = omega arith; is = λ k b. by k b (true-or-false (eqb k i)) }
+      record { whole = length-set l i z ∙ w.whole; is = λ k b. by k b (true-or-false (eqb k i)) }
     where
       by : (k : ℕ) → k < i + 1 → (eqb k i ≡ true) ⊎ (eqb k i ≡ false)
           → get_or (set l i z) k (pos 0) ≡ get_or (table_left n) k (pos 0)

@@ -7,8 +7,6 @@ ghost use Rattle.civil.specs.Instants.{instant_reply};
 ghost use Rattle.civil.specs.Asked.{date_reply};
 ghost use Rattle.civil_api.specs.Codes.{table_code, table_left, DateLeft, instant_code, instant_left};
 
-use dates::{Dated, Instant};
-
 // The number at the place i of a list of n numbers: that of the civil table if the list holds all of it, and 0 else.
 fn number_at(n: usize, i: usize) -> i32
     ensures { result ≡ get_or (table_left n) i (pos 0) }
@@ -29,10 +27,8 @@ pub fn table(list: &mut [i32]) -> i64
     ensures list { list.new ≡ table_left (length list.old) }
 {
     let n = list.len();
-    let mut i = 0;
-    while i < n {
-        list[i] = number_at(n, i);
-        i += 1;
+    for (i, x) in list.iter_mut().enumerate() {
+        *x = number_at(n, i);
     }
     if n < 66 { -1 } else { 66 }
 }
@@ -43,14 +39,14 @@ pub fn date(t: i64, year: &mut i64, month: &mut i64, day: &mut i64) -> i64
 {
     let dated = dates::date_of(t);
     match dated {
-        Dated::On(d) => {
+        Ok(d) => {
             let y = d.year;
             *year = y;
             *month = d.month as i64;
             *day = d.day as i64;
             0
         }
-        Dated::Refused(x) => {
+        Err(x) => {
             *year = 0;
             *month = 0;
             *day = 0;
@@ -66,11 +62,11 @@ pub fn instant(year: i64, month: i64, day: i64, t: &mut i64) -> i64
 {
     let found = dates::instant_of(year, month, day);
     match found {
-        Instant::At(i) => {
+        Ok(i) => {
             *t = i;
             0
         }
-        Instant::Refused(x) => {
+        Err(x) => {
             *t = 0;
             codes::refusal_code(x)
         }

@@ -11,10 +11,9 @@ use Rattle.algebra.specs.TableMeaning.TableReply.{means}
 use Rattle.civil.specs.Table.{civil_table, civil_pool}
 use Rattle.civil.specs.Rows.{CivilRows}
 use Rattle.civil.proofs.Civil.{civil_meanings, civil-answered, civil-represented}
+use Rattle.conversion.specs.Conversion.{Conversion, Converted}
 use Rattle.conversion.specs.Shows.{row_at}
 use Rattle.conversion.specs.Left.{Left}
-use Rattle.conversion.specs.declared.Conversion.{Conversion}
-use Rattle.conversion.specs.declared.Conversion.TheVariants.{Converted}
 use Rattle.conversion.proofs.Demands.{demand-2-only}
 
 -- lent 11 headings and 332,046 cells or more, up to the limit, `convert` answers, and the rows by their headings are

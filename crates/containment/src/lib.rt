@@ -13,7 +13,7 @@ ghost use Rattle.cursors.specs.Cursor.{cursor_at, Standing};
 ghost use Rattle.containment.specs.Sides.{Overlaps, inside_toward};
 ghost use Rattle.containment.specs.Places.{at, Beside, step_at};
 
-use cursors::{Cursor, Found};
+use cursors::Cursor;
 
 pub mod seen;
 
@@ -45,8 +45,8 @@ fn shows(cells: &[i32], period: i64, distance: i64, c: Cursor, j: i64) -> bool
 {
     let label = cursors::cursor_label(cells, period, distance, c);
     match label {
-        Found::At(i) => i == j,
-        Found::Nothing => false,
+        Some(i) => i == j,
+        None => false,
     }
 }
 
@@ -66,7 +66,7 @@ fn step_at(
     ensures { result ≡ step_at (given b_period b_distance b_cells.now) (given a_period a_distance a_cells.now) p }
 {
     let label = cursors::cursor_label(b_cells, b_period, b_distance, p.b);
-    let Found::At(k) = label else {
+    let Some(k) = label else {
         return Step::On;
     };
     if k != p.k {
@@ -187,21 +187,21 @@ pub fn holder(
     h_period: i64,
     h_distance: i64,
     t: i64,
-) -> Found
+) -> Option<i64>
     requires sound { Sound g_period g_distance g_cells.now }
     requires sound_2 { Sound h_period h_distance h_cells.now }
     requires labelled { Labelled (given g_period g_distance g_cells.now) t }
     ensures { (z : ℤ) → meant (given g_period g_distance g_cells.now) t ≡ some z → found result ≡ holder (given g_period g_distance g_cells.now) (given h_period h_distance h_cells.now) z }
 {
     let label = cursors::label_at(h_cells, h_period, h_distance, t);
-    let Found::At(i) = label else {
-        return Found::Nothing;
+    let Some(i) = label else {
+        return None;
     };
     if inside(
         g_cells, g_period, g_distance, h_cells, h_period, h_distance, t,
     ) {
-        Found::At(i)
+        Some(i)
     } else {
-        Found::Nothing
+        None
     }
 }

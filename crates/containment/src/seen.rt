@@ -6,7 +6,7 @@ ghost use Rattle.cursors.specs.Found.{Sound, Within};
 ghost use Rattle.cursors.specs.Cursor.{cursor_at};
 ghost use Rattle.containment.specs.Seen.{SeenAt};
 
-use cursors::{Cursor, Found};
+use cursors::Cursor;
 
 // What an instant says of a's granule j.
 #[derive(Clone, Copy)]
@@ -42,14 +42,14 @@ pub fn seen_at(
     ensures { SeenAt (given a_period a_distance a_cells.now) (given b_period b_distance b_cells.now) j t result }
 {
     let own = cursors::cursor_label(a_cells, a_period, a_distance, a);
-    let Found::At(k) = own else {
+    let Some(k) = own else {
         return Seen::Off;
     };
     if k != j {
         return Seen::Over;
     }
     let label = cursors::cursor_label(b_cells, b_period, b_distance, b);
-    let Found::At(i) = label else {
+    let Some(i) = label else {
         return Seen::Bare;
     };
     Seen::Of(i)

@@ -1,5 +1,6 @@
 -- The rows of a pool with one more behind them.
 -- Assumes nothing.
+use Rattle.std.specs.Prelude.{Err, Ok, Result}
 use mathlib.Core.Path.{◌≡◌, refl, sym, ◌∙◌, ap, ap₂, subst}
 use mathlib.Core.Logic.{⊎_elim}
 use mathlib.Core.Bool.{true}
@@ -26,8 +27,6 @@ use Rattle.calendar.specs.Lists.{filled}
 use Rattle.granules.proofs.Sound.{sound-valid}
 use Rattle.algebra.proofs.Stored.{entry-sound}
 use Rattle.algebra.proofs.Steps.{judged-is}
-use Rattle.row_entry.specs.declared.Appended.{Appended}
-use Rattle.row_entry.specs.declared.Appended.TheVariants.{Refused, Ends}
 use Rattle.row_entry.specs.Stores.{Stores, Entered}
 use Rattle.row_entry.specs.Entering.{Added, Kept, Became}
 use Rattle.row_entry.proofs.Cells.{drop-alike}
@@ -130,7 +129,7 @@ kept-stores l used numbers headings before pool s same kept =
     })
 
 -- it names the operation o
-pub entered : (t : List ℤ) (k used : ℕ) (l : List Row) (numbers headings : List ℕ) (before pool : List ℤ) (x : Entry) (o : Operation ℕ) (c : Appended) → length l ≡ k
+pub entered : (t : List ℤ) (k used : ℕ) (l : List Row) (numbers headings : List ℕ) (before pool : List ℤ) (x : Entry) (o : Operation ℕ) (c : Result ℕ Refusal) → length l ≡ k
     → Stores l numbers before used → heading_length * k + heading_length ≤ length numbers → length before ≤ pool_limit → x ≡ entry_at t k → named k x ≡ answer o
     → length pool ≡ length before → Became k used numbers before (converted (at_rows l o) (length before - used)) c headings pool → Entered t k l c headings pool
 entered t k used l numbers headings before pool x o c many s heading limit is names same = by c
@@ -143,15 +142,15 @@ entered t k used l numbers headings before pool x o c many s heading limit is na
     judged-same : judged l (length pool - length (joined l)) (entry_at t k) ≡ judged l (length before - used) x
     judged-same = ap₂ (judged l) (ap₂ ◌-◌ same (sym s.ends)) (sym is)
 
-    by : (c : Appended) → Became k used numbers before (converted (at_rows l o) (length before - used)) c headings pool → Entered t k l c headings pool
-    by (Refused n) (b, kept) = (judged-same ∙ judged-so ∙ b, kept-stores l used numbers headings before pool s same kept)
-    by (Ends e) (r, b, a) =
+    by : (c : Result ℕ Refusal) → Became k used numbers before (converted (at_rows l o) (length before - used)) c headings pool → Entered t k l c headings pool
+    by (Err n) (b, kept) = (judged-same ∙ judged-so ∙ b, kept-stores l used numbers headings before pool s same kept)
+    by (Ok e) (r, b, a) =
         let h = entry-sound l (length before - used) x r s.all_sound (omega arith) (judged-so ∙ b) in
         (r, judged-same ∙ judged-so ∙ b, stored l k used e numbers headings before pool r many s a heading h.0 h.1 same)
 
 -- it does not pass checks 4, 5 and 6, and both lists are as they were
 pub refused-named : (t : List ℤ) (k used : ℕ) (l : List Row) (headings : List ℕ) (pool : List ℤ) (x : Entry) (n : Refusal) → length l ≡ k
-    → Stores l headings pool used → x ≡ entry_at t k → named k x ≡ refused (number_of n) → Entered t k l (Refused n) headings pool
+    → Stores l headings pool used → x ≡ entry_at t k → named k x ≡ refused (number_of n) → Entered t k l (Err n) headings pool
 refused-named t k used l headings pool x n many s is h = (
   judged-is l (length pool - length (joined l)) (entry_at t k)
       ∙ ap (λ (a : Reply (Operation ℕ)). and_then a (λ o. converted (at_rows l o) (length pool - length (joined l)))) (ap₂ named many (sym is) ∙ h),

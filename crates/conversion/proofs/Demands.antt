@@ -24,11 +24,10 @@ use Rattle.laws.specs.Laws.{Law}
 use Rattle.laws.specs.Matches.{Matches, calendar_at}
 use Rattle.laws.specs.Answered.{Answered}
 use Rattle.laws.proofs.Demand3 as laws
+use Rattle.conversion.specs.Conversion.{Conversion, Converted}
 use Rattle.conversion.specs.Answers.{answered}
 use Rattle.conversion.specs.Shows.{granules_at, ShowsRows, Shows}
 use Rattle.conversion.specs.Left.{Left, ConvertedTable, row_of}
-use Rattle.conversion.specs.declared.Conversion.{Conversion}
-use Rattle.conversion.specs.declared.Conversion.TheVariants.{Converted}
 use Rattle.conversion.proofs.LeftRows.{means-length, labels-counted, shows-refusal, shows-rows}
 
 -- ---- demand 2

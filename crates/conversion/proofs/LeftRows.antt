@@ -31,8 +31,8 @@ use Rattle.algebra.specs.Represents.{Represents, CountsLabels}
 use Rattle.algebra.specs.Agrees.{RepresentsAll}
 use Rattle.granules.proofs.Replies.{require-answer}
 use Rattle.algebra.proofs.Demand2.{represents-length, represents-at, stored-sound, stored-fit}
+use Rattle.conversion.specs.Conversion.{Refused, Converted}
 use Rattle.conversion.specs.Shows.{row_at, distance_at, ShowsRefusal, ShowsRows}
-use Rattle.conversion.specs.declared.Conversion.TheVariants.{Refused, Converted}
 use Rattle.conversion.proofs.Headings.{Whole, filled-length, headings-length, first-left, row-left, granules-left, next-left, behind-left, beyond-left}
 
 -- ---- how many entries a table has

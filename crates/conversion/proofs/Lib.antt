@@ -1,6 +1,6 @@
 -- The laws that the proofs of this crate rest on.
 --     Behind       the rows of a pool with one more behind them
---     Clearing     a list of which elements are cleared
+--     Clearing     lists that are cleared
 --     Outcomes     the outcome of a table, entry by entry
 --     Headings     rows and headings in the lists, read by the headings
 --     LeftRows     what is left after a refusal, and where the table is answered

@@ -27,28 +27,27 @@ use Rattle.algebra.proofs.Stored.{joined_length}
 use Rattle.algebra.proofs.Steps.{after_entry, entries-zero, entries-suc, after_table, outcome-is}
 use Rattle.calendar.specs.declared.Refusal.{Refusal}
 use Rattle.calendar.specs.Refusals.{number_of}
-use Rattle.row_entry.specs.declared.Appended.TheVariants as Appended
+use Rattle.std.specs.Prelude.{Ok, Err}
 use Rattle.row_entry.specs.Stores.{Stores, EntryDue, Entered}
-use Rattle.conversion.specs.declared.Conversion.{Conversion}
-use Rattle.conversion.specs.declared.Conversion.TheVariants as Conversion
+use Rattle.conversion.specs.Conversion.{Conversion, Refused, Converted}
 use Rattle.conversion.specs.Tables.{Cleared, TableDue}
 use Rattle.conversion.specs.Left.{Ended, Left}
 use Rattle.conversion.proofs.Clearing.{filled-length, filled-self}
 
 -- ---- what an outcome leaves
 
-refused-ends : (h p m k : ℕ) (headings : List ℕ) (pool : List ℤ) → Cleared h p headings pool → Ended h p (refused_at m k) (Conversion.Refused m k) headings pool
+refused-ends : (h p m k : ℕ) (headings : List ℕ) (pool : List ℤ) → Cleared h p headings pool → Ended h p (refused_at m k) (Refused m k) headings pool
 unfolding headings_after pool_after
 refused-ends h p m k headings pool c = record { answer = refl; numbers = c.numbers; cells = c.cells }
 
 pub ended-refused : (h p m k : ℕ) (o : Outcome) (headings : List ℕ) (pool : List ℤ) → o ≡ refused_at m k → Cleared h p headings pool
-    → Ended h p o (Conversion.Refused m k) headings pool
+    → Ended h p o (Refused m k) headings pool
 ended-refused h p m k o headings pool e c =
-    subst (λ (o : Outcome). Ended h p o (Conversion.Refused m k) headings pool) (sym e) (refused-ends h p m k headings pool c)
+    subst (λ (o : Outcome). Ended h p o (Refused m k) headings pool) (sym e) (refused-ends h p m k headings pool c)
 
 -- the cells behind the rows are made empty
 rows_end : (l : List Row) (headings : List ℕ) (pool after : List ℤ) (used : ℕ) → Stores l headings pool used
-    → after ≡ take used pool ++ replicate (length pool - used) empty → Ended (length headings) (length pool) (rows l) Conversion.Converted headings after
+    → after ≡ take used pool ++ replicate (length pool - used) empty → Ended (length headings) (length pool) (rows l) Converted headings after
 unfolding headings_after pool_after
 rows_end l headings pool after used s e = record {
   answer = refl;
@@ -95,7 +94,7 @@ module _ (t : List ℤ) (n h p k : ℕ) (headings : List ℕ) (pool : List ℤ) 
   }
 
   pub standing-ended : n ≤ k → (after : List ℤ) → after ≡ take used pool ++ replicate (length pool - used) empty
-      → Ended h p (entries t n 0 [] p) Conversion.Converted headings after
+      → Ended h p (entries t n 0 [] p) Converted headings after
   standing-ended l after e =
       let z : n - k ≡ 0 = omega (arith, s.at-most) in
       let o = s.same ∙ ap (λ (m : ℕ). entries t m k s.before (p - length (joined s.before))) z ∙ entries-zero t k s.before _ in
@@ -114,10 +113,10 @@ module _ (t : List ℤ) (n h p k : ℕ) (headings : List ℕ) (pool : List ℤ) 
         ∙ ap (after_entry t (n - (k + 1)) k s.before room)
         (ap (λ (m : ℕ). judged s.before (m - length (joined s.before)) (entry_at t k)) (sym (e ∙ s.cells)) ∙ j)
 
-    pub standing-refused : (m : Refusal) (numbers : List ℕ) → Entered t k s.before (Appended.Refused m) numbers cells → entries t n 0 [] p ≡ refused_at (number_of m) k
+    pub standing-refused : (m : Refusal) (numbers : List ℕ) → Entered t k s.before (Err m) numbers cells → entries t n 0 [] p ≡ refused_at (number_of m) k
     standing-refused m numbers j = next-is (refused (number_of m)) j.0
 
-    pub standing-more : (end : ℕ) (numbers : List ℕ) → length numbers ≡ length headings → Entered t k s.before (Appended.Ends end) numbers cells
+    pub standing-more : (end : ℕ) (numbers : List ℕ) → length numbers ≡ length headings → Entered t k s.before (Ok end) numbers cells
         → Standing t n h p (k + 1) numbers cells end
     standing-more end numbers f j =
         let r = j.0 in
@@ -140,7 +139,7 @@ module _ (t : List ℤ) (n h p k : ℕ) (headings : List ℕ) (pool : List ℤ) 
 -- ---- checks 1, 2 and 3
 
 pub outcome-refused : (t : List ℤ) (h p m : ℕ) (headings : List ℕ) (pool : List ℤ) → admitted t (h / heading_length) p ≡ refused m → Cleared h p headings pool
-    → Left t h p (Conversion.Refused m 0) headings pool
+    → Left t h p (Refused m 0) headings pool
 outcome-refused t h p m headings pool e = ended-refused h p m 0 _ headings pool (outcome-is t (h / heading_length) p ∙ ap (after_table t p) e)
 
 pub outcome-entries : (t : List ℤ) (h p n : ℕ) (r : Conversion) (headings : List ℕ) (pool : List ℤ) → admitted t (h / heading_length) p ≡ answer n

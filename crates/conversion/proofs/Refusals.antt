@@ -1,6 +1,7 @@
 -- Refusals of what `convert` answers where the operands of union or intersection change places (document 02, Req 13).
 -- Assumes nothing.
-use mathlib.Core.Path.{◌≡◌, subst}
+use Rattle.std.specs.Prelude.{Ok, Err}
+use mathlib.Core.Path.{◌≡◌, sym, ap, subst}
 use mathlib.Core.Logic.{◌↔◌}
 use mathlib.Core.List.{List}
 use Prim.Native.Nat.{ℕ, ◌/◌}
@@ -12,11 +13,19 @@ use Rattle.algebra.specs.TableMeaning.{TableReply, TableMeans}
 use Rattle.algebra.specs.TableMeaning.TableReply.{refused_at, means}
 use Rattle.laws.specs.Commutes.{Commutes, Swapped}
 use Rattle.laws.proofs.Refusals.{swapped-back, table-swap}
+use Rattle.conversion.specs.Conversion.{Conversion, Refused}
 use Rattle.conversion.specs.Shows.{Shows}
 use Rattle.conversion.specs.Left.{Left}
-use Rattle.conversion.specs.declared.Conversion.{Conversion}
-use Rattle.conversion.specs.declared.Conversion.TheVariants.{Refused}
 use Rattle.conversion.proofs.Demands.{demand-2, demand-2-only}
+
+-- what a refusal holds
+abbrev number_in : Conversion → ℕ
+number_in (Err e) = e.number
+number_in (Ok x) = 0
+
+abbrev entry-in : Conversion → ℕ
+entry-in (Err e) = e.entry
+entry-in (Ok x) = 0
 
 -- a refusal that is answered is what the table means
 refused-means : (t : List ℤ) (h p n k : ℕ) (numbers : List ℕ) (pool : List ℤ) → Left t h p (Refused n k) numbers pool
@@ -27,8 +36,8 @@ refused-means t h p n k numbers pool left =
   where
     by : (m : TableReply) → TableMeans t (h / heading_length) p m → Shows m h p (Refused n k) numbers pool → TableMeans t (h / heading_length) p (refused_at n k)
     by (refused_at n' k') a shown =
-        let e : n' ≡ n = cc shown.answer in
-        let f : k' ≡ k = cc shown.answer in
+        let e : n' ≡ n = sym (ap number_in shown.answer) in
+        let f : k' ≡ k = sym (ap entry-in shown.answer) in
         rw (e, f) at a
     by (means ms) a shown = let z : ◌≡◌ {A = ℕ} 0 1 = cc shown.answer in absurd (omega arith)
 

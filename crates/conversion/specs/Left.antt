@@ -6,10 +6,9 @@ use Rattle.calendar.specs.Outcome.{Outcome, outcome}
 use Rattle.calendar.specs.Stored.{pool_after, headings_after}
 use Rattle.algebra.specs.TableMeaning.{Meant, TableMeans}
 use Rattle.algebra.specs.TableMeaning.TableReply.{means}
+use Rattle.conversion.specs.Conversion.{Conversion, Converted}
 use Rattle.conversion.specs.Answers.{answered}
 use Rattle.conversion.specs.Shows.{row_at}
-use Rattle.conversion.specs.declared.Conversion.{Conversion}
-use Rattle.conversion.specs.declared.Conversion.TheVariants.{Converted}
 
 -- the answer and both lists, of h heading numbers and p cells, are those of the outcome o
 pub record Ended (h p : ℕ) (o : Outcome) (c : Conversion) (headings : List ℕ) (pool : List ℤ) : Type 0 where

@@ -1,12 +1,11 @@
 -- What the lists of a conversion show to a reader, as document 01 reads them: rows by their headings.
 use Rattle.std.specs.Prelude.{◌≡◌, List, ℕ, suc, ◌+◌, ◌*◌, ◌≤◌, ◌<◌, ℤ, length, get_or, take, drop, replicate}
+use Rattle.conversion.specs.Conversion.{Conversion, Refused, Converted}
 use Rattle.calendar.specs.Limits.{heading_length}
 use Rattle.calendar.specs.Meaning.{Row, empty}
 use Rattle.algebra.specs.TableMeaning.{Meant, nothing, TableReply}
 use Rattle.algebra.specs.TableMeaning.TableReply.{refused_at, means}
 use Rattle.algebra.specs.Represents.{Represents, CountsLabels}
-use Rattle.conversion.specs.declared.Conversion.{Conversion}
-use Rattle.conversion.specs.declared.Conversion.TheVariants.{Refused, Converted}
 
 -- ---- headings and rows
 

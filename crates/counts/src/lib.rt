@@ -44,14 +44,11 @@ fn labels_on(cells: &[i32], i: usize, last: i32, count: usize) -> Labels
 {
     let mut top = last;
     let mut sum = count;
-    let mut k = i;
-    while k < cells.len() {
-        let z = cells[k];
+    for &z in &cells[i..] {
         if z > top {
             top = z;
             sum += 1;
         }
-        k += 1;
     }
     Labels {
         count: sum as i64,
@@ -64,9 +61,7 @@ fn labels_on(cells: &[i32], i: usize, last: i32, count: usize) -> Labels
 fn label_before(cells: &[i32], low: usize, i: usize, other: i32) -> i32
     requires { i ≤ length cells.now }
 {
-    let mut k = i;
-    while k > low {
-        k -= 1;
+    for k in (low..i).rev() {
         if cells[k] != Calendar::EMPTY {
             return cells[k];
         }
@@ -85,8 +80,7 @@ fn abreast(cells: &[i32], start: usize, q: usize, b: i32, c: i32, d: i32) -> Top
     let mut top_b = b;
     let mut top_c = c;
     let mut top_d = d;
-    let mut i = start;
-    while i < start + q {
+    for i in start..start + q {
         let z = cells[i];
         if z > top_a {
             top_a = z;
@@ -107,10 +101,9 @@ fn abreast(cells: &[i32], start: usize, q: usize, b: i32, c: i32, d: i32) -> Top
             top_d = w;
             count += 1;
         }
-        i += 1;
     }
     Tops {
-        count: count,
+        count,
         a: top_a,
         b: top_b,
         c: top_c,
@@ -160,12 +153,10 @@ fn changes_in(cells: &[i32], start: usize, end: usize) -> u32
     ensures counted { differing_behind cells.now start ≡ result + differing_behind cells.now end }
 {
     let mut count: u32 = 0;
-    let mut i = start;
-    while i < end {
+    for i in start..end {
         if cells[i] != cells[i - 1] {
             count += 1;
         }
-        i += 1;
     }
     count
 }
@@ -199,7 +190,7 @@ fn labels_of(cells: &[i32], period: i64, distance: i64, start: usize) -> Labels
     let last = scan::wide(cells, cells.len() - 1);
     Labels {
         count: count as i64 + 1,
-        last: last,
+        last,
     }
 }
 
@@ -225,12 +216,10 @@ fn labelled_in(cells: &[i32], start: usize, end: usize) -> u32
     ensures counted { length (S.labels_of (drop start cells.now)) ≡ result + length (S.labels_of (drop end cells.now)) }
 {
     let mut count: u32 = 0;
-    let mut i = start;
-    while i < end {
-        if cells[i] != Calendar::EMPTY {
+    for &z in &cells[start..end] {
+        if z != Calendar::EMPTY {
             count += 1;
         }
-        i += 1;
     }
     count
 }

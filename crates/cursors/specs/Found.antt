@@ -1,16 +1,15 @@
 -- What the functions on rows answer, and the rows they are about.
-use Rattle.std.specs.Prelude.{◌≡◌, true, ℕ, ◌^◌, ℤ, pos, neg_ℤ, ◌≤ℤ◌, List}
-use Rattle.std.proofs.Math.Option.{Option, none, some}
+use Rattle.std.specs.Prelude.{◌≡◌, true, ℕ, ◌^◌, ℤ, pos, neg_ℤ, ◌≤ℤ◌, List, None, Option, Some}
+use Rattle.std.proofs.Math.Option as Math
+use Rattle.std.proofs.Math.Option.{none, some}
 use Rattle.calendar.specs.Meaning.{Row, meant}
 use Rattle.calendar.specs.Sound.{sound}
 use Rattle.calendar.specs.Questions.{given}
-use Rattle.cursors.specs.declared.Found.{Found}
-use Rattle.cursors.specs.declared.Found.TheVariants.{At, Nothing}
 
--- a label or an instant, or none
-abbrev pub found : Found → Option ℤ
-found (At z) = some z
-found Nothing = none
+-- the label or the instant that the code answers, or none
+abbrev pub found : Option ℤ → Math.Option ℤ
+found (Some z) = some z
+found None = none
 
 -- a row that passed check 13
 abbrev pub Sound : ℤ → ℤ → List ℤ → Type 0

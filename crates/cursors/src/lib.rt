@@ -13,13 +13,6 @@ ghost use Rattle.cursors.specs.Direction.{stepped};
 
 use calendar::Calendar;
 
-// A label or an instant, where there is one.
-#[derive(Clone, Copy)]
-pub enum Found {
-    At(i64),
-    Nothing,
-}
-
 // An instant of a row, by its cell and by how far the labels of its turn are above those of the first turn. With it a step to the
 // next instant or back takes no division.
 #[derive(Clone, Copy)]
@@ -50,7 +43,7 @@ pub fn cursor_next(cells: &[i32], period: i64, distance: i64, c: Cursor) -> Curs
     let index = c.index + 1;
     if index < period {
         Cursor {
-            index: index,
+            index,
             rise: c.rise,
         }
     } else {
@@ -111,16 +104,16 @@ fn cell_at(cells: &[i32], i: i64) -> i32
 }
 
 // The label of the cursor's instant.
-pub fn cursor_label(cells: &[i32], period: i64, distance: i64, c: Cursor) -> Found
+pub fn cursor_label(cells: &[i32], period: i64, distance: i64, c: Cursor) -> Option<i64>
     requires sound { Sound period distance cells.now }
     requires standing { Standing (given period distance cells.now) c }
     ensures { (u : ℤ) → c ≡ cursor_at (given period distance cells.now) u → found result ≡ meant (given period distance cells.now) u }
 {
     let cell = cell_at(cells, c.index);
     if cell == Calendar::EMPTY {
-        Found::Nothing
+        None
     } else {
-        Found::At(cell as i64 + c.rise)
+        Some(cell as i64 + c.rise)
     }
 }
 
@@ -131,14 +124,14 @@ pub fn label_of(cells: &[i32], period: i64, distance: i64, c: Cursor) -> i64
     ensures { (u : ℤ) → c ≡ cursor_at (given period distance cells.now) u → meant (given period distance cells.now) u ≡ some result }
 {
     let label = cursor_label(cells, period, distance, c);
-    let Found::At(j) = label else {
+    let Some(j) = label else {
         return 0;
     };
     j
 }
 
 // The label of the instant t.
-pub fn label_at(cells: &[i32], period: i64, distance: i64, t: i64) -> Found
+pub fn label_at(cells: &[i32], period: i64, distance: i64, t: i64) -> Option<i64>
     requires sound { Sound period distance cells.now }
     requires near { Near t }
     ensures { found result ≡ meant (given period distance cells.now) t }

@@ -21,18 +21,6 @@ pub struct Date {
     pub day: u32,
 }
 
-#[derive(Clone, Copy)]
-pub enum Dated {
-    On(Date),
-    Refused(Refusal),
-}
-
-#[derive(Clone, Copy)]
-pub enum Instant {
-    At(i64),
-    Refused(Refusal),
-}
-
 fn multiple_of(n: i64, year: i64) -> bool
     requires { pos 0 <ℤ n }
     ensures { result ≡ multiple_of (up n) year }
@@ -133,22 +121,18 @@ fn date_at(x: i64) -> Date
     let n = day_of_year(x, q);
     let month = month_at(leap, n);
     let day = n - days_to_month(leap, month) + 1;
-    Date {
-        year: year,
-        month: month,
-        day: day,
-    }
+    Date { year, month, day }
 }
 
 // The date of the instant t. Refuses 14.
-pub fn date_of(t: i64) -> Dated
+pub fn date_of(t: i64) -> Result<Date, Refusal>
     ensures { dated_reply result ≡ date_reply t }
 {
     if !Calendar::in_range(t) {
-        return Dated::Refused(Refusal::ArgumentOutsideLimits);
+        return Err(Refusal::ArgumentOutsideLimits);
     }
     let date = date_at(t - 1);
-    Dated::On(date)
+    Ok(date)
 }
 
 fn is_between(low: i64, high: i64, z: i64) -> bool
@@ -187,18 +171,18 @@ fn instant_at(year: i64, month: u32, day: u32) -> i64
 }
 
 // The instant of a date. Refuses 20, then 14.
-pub fn instant_of(year: i64, month: i64, day: i64) -> Instant
+pub fn instant_of(year: i64, month: i64, day: i64) -> Result<i64, Refusal>
     ensures { found_reply result ≡ instant_reply year month day }
 {
     if !date_exists(year, month, day) {
-        return Instant::Refused(Refusal::NoSuchDate);
+        return Err(Refusal::NoSuchDate);
     }
     if !is_between(-3000000, 3000000, year) {
-        return Instant::Refused(Refusal::ArgumentOutsideLimits);
+        return Err(Refusal::ArgumentOutsideLimits);
     }
     let t = instant_at(year, month as u32, day as u32);
     if !Calendar::in_range(t) {
-        return Instant::Refused(Refusal::ArgumentOutsideLimits);
+        return Err(Refusal::ArgumentOutsideLimits);
     }
-    Instant::At(t)
+    Ok(t)
 }

@@ -1,11 +1,11 @@
 -- The declared types of this crate, in the terms of the definitions.
-use Rattle.std.specs.Prelude.{Bool, ◌&&◌, ◌||◌, ℕ, leb, ltb, get_or}
+use Rattle.calendar.specs.declared.Refusal.{Refusal}
+use Rattle.std.specs.Prelude.{Bool, ◌&&◌, ◌||◌, ℕ, leb, ltb, get_or, Result, Ok, Err}
 use Rattle.calendar.specs.Reply.{Reply}
 use Rattle.calendar.specs.Reply.Reply.{refused, answer}
 use Rattle.calendar.specs.Refusals.{number_of}
 use Rattle.calendar.specs.Table as Table
 use Rattle.entries.specs.declared.Entry.{Entry}
-use Rattle.entries.specs.declared.Begun.{Begun}
 
 -- the six numbers of an entry of the code
 abbrev pub entry_of : Entry → Table.Entry
@@ -24,6 +24,6 @@ abbrev pub others_zero : ℕ → Table.Entry → Bool
 others_zero n e = (leb 1 n || Table.zero? e.first) && (leb 2 n || Table.zero? e.second)
 
 -- what checks 1, 2 and 3 come to
-abbrev pub begun_reply : Begun → Reply ℕ
-begun_reply (Begun.Refused x) = refused (number_of x)
-begun_reply (Begun.Entries n) = answer n
+abbrev pub begun_reply : Result ℕ Refusal → Reply ℕ
+begun_reply (Err x) = refused (number_of x)
+begun_reply (Ok n) = answer n

@@ -1,5 +1,6 @@
 -- What an entry names, as the code holds it.
-use Rattle.std.specs.Prelude.{◌≡◌, ℕ, zero, suc, ◌≤◌, ◌<◌, ℤ}
+use Rattle.calendar.specs.declared.Refusal.{Refusal}
+use Rattle.std.specs.Prelude.{◌≡◌, ℕ, zero, suc, ◌≤◌, ◌<◌, ℤ, Ok, Err, Result}
 use Rattle.integers.specs.Parts.{up}
 use Rattle.calendar.specs.Operation.{Operation}
 use Rattle.calendar.specs.Refusals.{number_of}
@@ -10,7 +11,6 @@ use Rattle.algebra.specs.Ready.{Operands}
 use Rattle.kinds.specs.declared.Kind.{Kind}
 use Rattle.kinds.specs.Operations.{operation_of, operands, Numbers}
 use Rattle.entries.specs.declared.Named.{Named}
-use Rattle.entries.specs.declared.Reading as Reading
 
 -- the kind of the operation o over entries, which the entry names
 pub record KindOf (e : Entry) (o : Operation ℕ) (kind : Kind) : Type 0 where
@@ -33,6 +33,6 @@ pub record Names (k : ℕ) (o : Operation ℕ) (n : Named) : Type 0 where
   pub twice : operands n.kind < 2 → n.second ≡ n.first
 
 -- what is read of the entry behind k others, where checks 4, 5 and 6 come to x
-abbrev pub Reads : ℕ → Reply (Operation ℕ) → Reading.Reading → Type 0
-Reads k x (Reading.TheVariants.Refused n) = x ≡ refused (number_of n)
-Reads k x (Reading.TheVariants.Named n) = (o : Operation ℕ) × (x ≡ answer o) × Names k o n
+abbrev pub Reads : ℕ → Reply (Operation ℕ) → Result Named Refusal → Type 0
+Reads k x (Err n) = x ≡ refused (number_of n)
+Reads k x (Ok n) = (o : Operation ℕ) × (x ≡ answer o) × Names k o n

@@ -158,52 +158,38 @@ pub struct Named {
     pub second: usize,
 }
 
-// What checks 4, 5 and 6 come to: a refusal, or what the entry names.
-#[derive(Clone, Copy)]
-pub enum Reading {
-    Refused(Refusal),
-    Named(Named),
-}
-
 // Reads the entry behind so many others, by checks 4, 5 and 6.
-pub fn read(e: Entry, before: usize) -> Reading
+pub fn read(e: Entry, before: usize) -> Result<Named, Refusal>
     ensures { Reads before (Table.named before (entry_of e)) result }
 {
     if !between(0, LAST_KIND, e.kind) {
-        return Reading::Refused(Refusal::UnknownKind);
+        return Err(Refusal::UnknownKind);
     }
     let kind = e.kind as usize;
     let count = operands(kind);
     if !operands_earlier(count, e, before) {
-        return Reading::Refused(Refusal::OperandNotEarlier);
+        return Err(Refusal::OperandNotEarlier);
     }
     if others_zero(count, e) && numbers(kind, e) {
-        Reading::Named(naming::names(e))
+        Ok(naming::names(e))
     } else {
-        Reading::Refused(Refusal::NumberOutsideLimits)
+        Err(Refusal::NumberOutsideLimits)
     }
-}
-
-// What checks 1, 2 and 3 come to: a refusal, or how many entries the table has.
-#[derive(Clone, Copy)]
-pub enum Begun {
-    Refused(Refusal),
-    Entries(usize),
 }
 
 // Checks 1, 2 and 3 of a table for which so many headings and so many cells are lent.
-pub fn begin(table: &[i32], headings: usize, pool: usize) -> Begun
+pub fn begin(table: &[i32], headings: usize, pool: usize) -> Result<usize, Refusal>
     ensures { begun_reply result ≡ Table.admitted table.now headings pool }
 {
     let entries = table.len() / ENTRY_LENGTH;
     if table.len() % ENTRY_LENGTH != 0 || entries < 1 || entries > ENTRY_LIMIT {
-        return Begun::Refused(Refusal::TableLength);
+        return Err(Refusal::TableLength);
     }
     if headings < entries {
-        return Begun::Refused(Refusal::TooFewHeadings);
+        return Err(Refusal::TooFewHeadings);
     }
     if pool > POOL_LIMIT {
-        return Begun::Refused(Refusal::PoolTooLong);
+        return Err(Refusal::PoolTooLong);
     }
-    Begun::Entries(entries)
+    Ok(entries)
 }

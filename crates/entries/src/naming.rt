@@ -11,18 +11,12 @@ ghost use Rattle.entries.specs.Naming.{KindOf, second_of, Names};
 use super::{Entry, Named};
 use kinds::{Alteration, Kind, Pick, Selection, SetOperation};
 
-fn wide(x: i32) -> i64
-    ensures { result ≡ x }
-{
-    x as i64
-}
-
 fn pick_of(e: Entry) -> Pick
     ensures { (result.x ≡ e.x) × (result.y ≡ e.y) }
 {
     Pick {
-        x: wide(e.x),
-        y: wide(e.y),
+        x: i64::from(e.x),
+        y: i64::from(e.y),
     }
 }
 
@@ -30,9 +24,9 @@ fn alteration_of(e: Entry) -> Alteration
     ensures { (result.x ≡ e.x) × (result.y ≡ e.y) × (result.z ≡ e.z) }
 {
     Alteration {
-        x: wide(e.x),
-        y: wide(e.y),
-        z: wide(e.z),
+        x: i64::from(e.x),
+        y: i64::from(e.y),
+        z: i64::from(e.z),
     }
 }
 
@@ -43,8 +37,8 @@ fn kind_of(e: Entry) -> Kind
     let kind = e.kind;
     match kind {
         0 => Kind::Bottom,
-        1 => Kind::Group(wide(e.x)),
-        2 => Kind::Shift(wide(e.x)),
+        1 => Kind::Group(i64::from(e.x)),
+        2 => Kind::Shift(i64::from(e.x)),
         3 => Kind::Alter(alteration_of(e)),
         4 => Kind::Combine,
         5 => Kind::Anchor,
@@ -54,7 +48,7 @@ fn kind_of(e: Entry) -> Kind
         9 => Kind::ByLabels(SetOperation::Union),
         10 => Kind::ByLabels(SetOperation::Intersection),
         11 => Kind::ByLabels(SetOperation::Difference),
-        _ => Kind::Renumber(wide(e.x)),
+        _ => Kind::Renumber(i64::from(e.x)),
     }
 }
 

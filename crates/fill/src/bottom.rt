@@ -3,8 +3,7 @@
 ghost use Rattle.kinds.specs.declared.Kind.TheVariants.{Bottom};
 ghost use Rattle.fill_shared.specs.Placed.{Placed, over, Fills};
 
-use calendar::Calendar;
-use fill_shared::Filled;
+use calendar::{Calendar, Refusal};
 use kinds::Operand;
 
 // Fills the working row of bottom.
@@ -15,10 +14,10 @@ pub fn fill_bottom(
     pool: &mut [i32],
     a: Operand,
     b: Operand,
-) -> Filled
+) -> Result<(), Refusal>
     requires { Placed Bottom a b span at period pool.old }
     ensures { Fills (over Bottom pool.old a b) at period pool.old pool.new result }
 {
     pool[at] = Calendar::BOTTOM_LABEL;
-    Filled::Labelled
+    Ok(())
 }

@@ -6,8 +6,8 @@ ghost use Rattle.kinds.specs.Stands.{row_in};
 ghost use Rattle.fill_shared.specs.Fillable.{Fillable};
 ghost use Rattle.fill_shared.specs.Placed.{Placed, over, Fills};
 
+use calendar::Refusal;
 use fill_pointwise::Pointwise;
-use fill_shared::Filled;
 use kinds::{Kind, Operand};
 
 mod bottom;
@@ -21,7 +21,7 @@ pub fn fill(
     pool: &mut [i32],
     a: Operand,
     b: Operand,
-) -> Filled
+) -> Result<(), Refusal>
     requires fillable { Fillable kind (row_in pool.old a) (row_in pool.old b) }
     requires placed { Placed kind a b span at period pool.old }
     ensures { Fills (over kind pool.old a b) at period pool.old pool.new result }

@@ -1,5 +1,8 @@
 -- The loop of alter: what holds between two stretches, behind the next one, and at the end.
 -- Assumes nothing.
+use Rattle.calendar.specs.declared.Refusal.TheVariants.{NothingLabelled, LabelOutsideLimits}
+use Rattle.calendar.specs.declared.Refusal.{Refusal}
+use Rattle.std.specs.Prelude.{Err, Ok, Result, ⊤}
 use mathlib.Core.Path.{◌≡◌, refl, sym, ◌∙◌, ap}
 use mathlib.Core.Option.{none, some}
 use mathlib.Core.Bool.{Bool, true, false, cond}
@@ -28,8 +31,6 @@ use Rattle.alter_granules.specs.Follows.{Passed, Follows}
 use Rattle.alter_granules.proofs.Tiled.{altered-iff, holds-some}
 use Rattle.alter_granules.proofs.Followed.{follows-later, passed_later}
 use Rattle.kinds.specs.declared.Kind.TheVariants.{Alter}
-use Rattle.fill_shared.specs.declared.Filled.{Filled}
-use Rattle.fill_shared.specs.declared.Filled.TheVariants.{Labelled, Unlabelled, OutOfRange}
 use Rattle.fill_shared.specs.Placed.{Fills}
 use Rattle.fill_shared.proofs.Filling.{Lent, row_of, Filling, filling-written, filling-done, rows-stood}
 use Rattle.fill_stretches.specs.declared.Reached.{Reached}
@@ -48,10 +49,9 @@ pub record Altering (by : Alteration) (repeat : Repeat) (a b : Lent) (at period 
 
 -- ---- the end: some instant has a label
 
-abbrev is-unlabelled : Filled → Bool
-is-unlabelled Labelled = false
-is-unlabelled Unlabelled = true
-is-unlabelled OutOfRange = false
+abbrev is-unlabelled : Result ⊤ Refusal → Bool
+is-unlabelled (Err NothingLabelled) = true
+is-unlabelled _ = false
 
 some-labelled : (by : Alteration) (repeat : Repeat) (a b : Row) → Alterable by repeat a b → unlabelled (altering by a b) ≡ false
 some-labelled by repeat a b g =
@@ -62,7 +62,8 @@ some-labelled by repeat a b g =
     let r = right (altering by a b) g.ready in
     (false-iff (unlabelled-iff (altering by a b) r)).1 (λ n. n (t, h.0, (r.labels t h.0).0 e))
 
-filled-labelled : (u r : Bool) → u ≡ false → (x : Bool) → cond x Labelled Unlabelled ≡ cond u Unlabelled (cond r Labelled OutOfRange) → x ≡ true
+filled-labelled : (u r : Bool) → u ≡ false → (x : Bool)
+    → ◌≡◌ {A = Result ⊤ Refusal} (cond x (Ok tt) (Err NothingLabelled)) (cond u (Err NothingLabelled) (cond r (Ok tt) (Err LabelOutsideLimits))) → x ≡ true
 filled-labelled u r e true f = refl
 filled-labelled true r e false f = absurd (true≢false refl e)
 filled-labelled false true e false f = absurd (true≢false refl (ap is-unlabelled f))
@@ -85,12 +86,12 @@ module _ (by : Alteration) (repeat : Repeat) (a b : Lent) (at period : ℕ) (old
   }
 
   module _ (new : List ℤ) (walk : Walk) (behind : Instant) (p : Reached) (h : Altering by repeat a b at period old new walk behind p) where
-    pub altering-done : period ≤ p.t → Fills (altering by (row_of a old) (row_of b old)) at period old new Labelled
+    pub altering-done : period ≤ p.t → Fills (altering by (row_of a old) (row_of b old)) at period old new (Ok tt)
     altering-done m =
         let o = altering by (row_of a old) (row_of b old) in
         let d = filling-done (Alter by) a b at period old new h.labelled p.t h.stage.filling m in
         let e = filled-labelled (unlabelled o) (labels_in_range o) (some-labelled by repeat (row_of a old) (row_of b old) h.alterable) h.labelled d.answer in
-        record { answer = ap (λ (x : Bool). cond x Labelled Unlabelled) (sym e) ∙ d.answer; lengths = d.lengths; before = d.before; row = d.row }
+        record { answer = ap (λ (x : Bool). cond x (Ok tt) (Err NothingLabelled)) (sym e) ∙ d.answer; lengths = d.lengths; before = d.before; row = d.row }
 
     module _ (m : p.t < period) where
       -- the labels of the instants before

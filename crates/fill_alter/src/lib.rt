@@ -15,8 +15,8 @@ ghost use Rattle.fill_shared.specs.Fillable.{Fillable};
 ghost use Rattle.fill_shared.specs.Placed.{Placed, over, Fills};
 
 use alter_granules::Repeat;
-use calendar::Calendar;
-use fill_shared::{Filled, end_of};
+use calendar::{Calendar, Refusal};
+use fill_shared::end_of;
 use fill_stretches::{fill_leading, fill_stretch};
 use kinds::{Alteration, Operand};
 use sizes::Turn;
@@ -60,7 +60,7 @@ pub fn fill_alter(
     pool: &mut [i32],
     a: Operand,
     b: Operand,
-) -> Filled
+) -> Result<(), Refusal>
     requires fillable { Fillable (Alter by) (row_in pool.old a) (row_in pool.old b) }
     requires placed { Placed (Alter by) a b span at period pool.old }
     ensures { Fills (over (Alter by) pool.old a b) at period pool.old pool.new result }
@@ -126,7 +126,7 @@ pub fn fill_alter(
             number = pool[back] as i64 + repeat.coarse;
         }
         if !Calendar::in_range(number) {
-            return Filled::OutOfRange;
+            return Err(Refusal::LabelOutsideLimits);
         }
         reached = fill_stretch(
             number as i32,
@@ -141,5 +141,5 @@ pub fn fill_alter(
             a_distance,
         );
     }
-    Filled::Labelled
+    Ok(())
 }

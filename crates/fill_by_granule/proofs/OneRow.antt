@@ -1,5 +1,7 @@
 -- A selection from a row of one cell, as it stands in a pool: what its loop is given.
 -- Assumes nothing.
+use Rattle.calendar.specs.declared.Refusal.{Refusal}
+use Rattle.std.specs.Prelude.{Result, ⊤}
 use mathlib.Core.Path.{◌≡◌, refl, sym, ◌∙◌, ap, ap₂, subst}
 use mathlib.Core.Option.{some}
 use mathlib.Core.Bool.{true, false}
@@ -30,7 +32,6 @@ use Rattle.kinds.specs.declared.Selection.{Selection}
 use Rattle.kinds.specs.declared.Kind.TheVariants.{Select}
 use Rattle.kinds.specs.Operations.{operation_of}
 use Rattle.kinds.specs.Stands.{end, row_in}
-use Rattle.fill_shared.specs.declared.Filled.{Filled}
 use Rattle.fill_shared.specs.Fillable.{Fillable}
 use Rattle.fill_shared.specs.Placed.{Placed, over, Fills}
 use Rattle.fill_shared.proofs.Cells.{same_rows}
@@ -135,6 +136,6 @@ module _ (by : Selection) (a b : Operand) (span : ℤ) (at period : ℕ) (pool :
   pub stood-sound : sound (row_of (lent_of b e) pool) ≡ true
   stood-sound = subst (λ (r : Row). sound r ≡ true) (sym b-is) g.sounds.1
 
-  pub stood-fills : (new : List ℤ) (r : Filled) → Fills (operation_of (Select by) (row_of (one_lent a.start) pool) (row_of (lent_of b e) pool)) at period pool new r
+  pub stood-fills : (new : List ℤ) (r : Result ⊤ Refusal) → Fills (operation_of (Select by) (row_of (one_lent a.start) pool) (row_of (lent_of b e) pool)) at period pool new r
       → Fills (over (Select by) pool a b) at period pool new r
   stood-fills new r h = same_rows (λ y z. Fills (operation_of (Select by) y z) at period pool new r) a-is b-is h

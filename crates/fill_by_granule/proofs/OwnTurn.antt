@@ -1,5 +1,7 @@
 -- Combine and select-up along a row of one cell: the working row is a's own turn, which a shift by 0 has too.
 -- Assumes nothing.
+use Rattle.calendar.specs.declared.Refusal.{Refusal}
+use Rattle.std.specs.Prelude.{Result, ⊤}
 use mathlib.Core.Path.{◌≡◌, refl, sym, ◌∙◌, ap, ap₂, subst, fun_ext}
 use mathlib.Core.Option.{Option, none, some}
 use mathlib.Core.Bool.{true, not}
@@ -37,7 +39,6 @@ use Rattle.kinds.specs.declared.Kind.TheVariants.{Combine, Select, Shift}
 use Rattle.kinds.specs.declared.Selection.TheVariants.{Up}
 use Rattle.kinds.specs.Operations.{operation_of}
 use Rattle.kinds.specs.Stands.{row_in}
-use Rattle.fill_shared.specs.declared.Filled.{Filled}
 use Rattle.fill_shared.specs.Fillable.{Fillable}
 use Rattle.fill_shared.specs.Placed.{Placed, over, Fills}
 
@@ -56,7 +57,7 @@ module _ (o s : Operation Row) (e : (size o).period ≡ (size s).period) (h : (t
   unfolding working
   same-cells = ap₂ (λ (f : Calendar) (n : ℕ). map (λ t. cell_of (f t)) (from (pos 0) n)) (fun_ext h) e
 
-  same-fills : (at period : ℕ) (old new : List ℤ) (r : Filled) → Fills s at period old new r → Fills o at period old new r
+  same-fills : (at period : ℕ) (old new : List ℤ) (r : Result ⊤ Refusal) → Fills s at period old new r → Fills o at period old new r
   same-fills at period old new r f = record {
     answer = rw (same-unlabelled, same-range) f.answer;
     lengths = f.lengths;
@@ -176,6 +177,6 @@ module _ (a b : Operand) (pool : List ℤ) (s : (sound (row_in pool a) ≡ true)
       is-period = p.is-period ∙ period-is;
     }
 
-    pub own-fills : (new : List ℤ) (r : Filled) → Fills (over (Shift (pos 0)) pool a b) at period pool new r → Fills (over k pool a b) at period pool new r
+    pub own-fills : (new : List ℤ) (r : Result ⊤ Refusal) → Fills (over (Shift (pos 0)) pool a b) at period pool new r → Fills (over k pool a b) at period pool new r
     own-fills new r f =
         same-fills (operation_of k A B) (own A B) period-is (λ t. o.label t ∙ sym (own-label A B t)) at period pool new r f

@@ -10,7 +10,6 @@ use native.Mathlib.Omega.{arith}
 use lib.Dec.{ltb}
 use lib.IntN.{ℤ, pos, ◌+ℤ◌, ◌-ℤ◌}
 use lib.Signed.{◌≤ℤ◌, ◌<ℤ◌}
-use lib.ListN.{length, length-set}
 use Rattle.integers.specs.Parts.{up}
 use Rattle.integers.proofs.Linear.{ints, ◌∴◌}
 use Rattle.integers.proofs.Order.{le-or-lt, ≤ℤ-antisym, pos-up}
@@ -81,10 +80,6 @@ module _ (b : Row) (v : Valid b) (w : Whole b) (t : ℤ) (x : Change) (c : Chang
 -- ---- the cells that are written
 
 module _ (c lo hi : ℤ) (at t : ℕ) where
-  pub chosen-length : (n : ℕ) (pool : List ℤ) → length (chosen_cells c lo hi at t n pool) ≡ length pool
-  chosen-length zero pool = refl
-  chosen-length (suc n) pool = length-set (chosen_cells c lo hi at t n pool) (at + (t + n)) _ ∙ chosen-length n pool
-
   pub chosen-few : (n : ℕ) → chosen_count c lo hi t n ≤ n
   chosen-few zero = omega arith
   chosen-few (suc n) = by (between lo hi (c +ℤ pos (t + n))) (chosen_count c lo hi t n) (chosen-few n)

@@ -16,9 +16,10 @@ ghost use Rattle.fill_shared.specs.Fillable.{Fillable};
 ghost use Rattle.fill_shared.specs.Placed.{Placed, over, Fills};
 ghost use Rattle.fill_by_granule.specs.Lying.{lies_at};
 
+use calendar::Refusal;
 use containment::CursorPair;
-use cursors::{Cursor, Found};
-use fill_shared::{Filled, any, end_of, outcome};
+use cursors::Cursor;
+use fill_shared::{any, end_of, outcome};
 use fill_stretches::{cell_of, fill_leading, fill_stretch, in_limits};
 use kinds::Operand;
 
@@ -46,7 +47,7 @@ fn lies(
     ensures { result ≡ lies_at (given a_period a_distance a_cells.now) (given b_period b_distance b_cells.now) k t }
 {
     let outer = cursors::cursor_label(a_cells, a_period, a_distance, a);
-    let Found::At(i) = outer else {
+    let Some(i) = outer else {
         return false;
     };
     let place = CursorPair { b, k, a, i };
@@ -74,7 +75,7 @@ pub fn combined(
     b_cells: &[i32],
     b_period: i64,
     b_distance: i64,
-) -> Found
+) -> Option<i64>
     requires sound { Sound a_period a_distance a_cells.now }
     requires sound_2 { Sound b_period b_distance b_cells.now }
     requires within { Within (2 ^ 59) t }
@@ -89,7 +90,7 @@ pub fn combined(
     ) {
         cursors::cursor_label(a_cells, a_period, a_distance, a)
     } else {
-        Found::Nothing
+        None
     }
 }
 
@@ -102,7 +103,7 @@ fn fill_granules(
     pool: &mut [i32],
     a: Operand,
     b: Operand,
-) -> Filled
+) -> Result<(), Refusal>
     requires fillable { Fillable Combine (row_in pool.old a) (row_in pool.old b) }
     requires placed { Placed Combine a b span at period pool.old }
     ensures { Fills (over Combine pool.old a b) at period pool.old pool.new result }
@@ -140,7 +141,7 @@ fn fill_granules(
             b_distance,
         );
         if !in_limits(label) {
-            return Filled::OutOfRange;
+            return Err(Refusal::LabelOutsideLimits);
         }
         let next = fill_stretch(
             cell_of(label),
@@ -177,7 +178,7 @@ pub fn fill_combine(
     pool: &mut [i32],
     a: Operand,
     b: Operand,
-) -> Filled
+) -> Result<(), Refusal>
     requires fillable { Fillable Combine (row_in pool.old a) (row_in pool.old b) }
     requires placed { Placed Combine a b span at period pool.old }
     ensures { Fills (over Combine pool.old a b) at period pool.old pool.new result }

@@ -17,8 +17,8 @@ ghost use Rattle.fill_shared.specs.Fillable.{Fillable};
 ghost use Rattle.fill_shared.specs.Placed.{Placed, over, Fills};
 ghost use Rattle.fill_by_granule.specs.Picking.{chosen_cells, chosen_count, ChosenRoom, from_label, to_label, reach_of};
 
-use calendar::Calendar;
-use fill_shared::{Filled, end_of, outcome};
+use calendar::{Calendar, Refusal};
+use fill_shared::{end_of, outcome};
 use kinds::{Operand, Pick, Selection};
 
 // Fills the cells of the instants from `from` up to `to`: the label of the instant u, `first` + u, where it is one from low
@@ -38,8 +38,7 @@ fn fill_chosen(
 {
     let mut label = first + from as i32;
     let mut count: u32 = 0;
-    let mut t = from;
-    while t < to {
+    for t in from..to {
         let mut cell = Calendar::EMPTY;
         if low <= label {
             if label <= high {
@@ -49,7 +48,6 @@ fn fill_chosen(
         }
         pool[at + t] = cell;
         label += 1;
-        t += 1;
     }
     count
 }
@@ -119,7 +117,7 @@ pub fn fill_instants(
     pool: &mut [i32],
     a: Operand,
     b: Operand,
-) -> Filled
+) -> Result<(), Refusal>
     requires fillable { Fillable (Select by) (row_in pool.old a) (row_in pool.old b) }
     requires placed { Placed (Select by) a b span at period pool.old }
     requires by_value { is_up by ≡ false }

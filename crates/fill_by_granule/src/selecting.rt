@@ -9,20 +9,16 @@ ghost use Rattle.fill_shared.specs.Fillable.{Fillable};
 ghost use Rattle.fill_shared.specs.Placed.{Placed, over, Fills};
 
 use super::picking;
-use cursors::Found;
-use fill_shared::{Filled, any, end_of, outcome};
+use calendar::Refusal;
+use fill_shared::{any, end_of, outcome};
 use fill_stretches::{cell_of, fill_leading, fill_stretch, in_limits};
 use kinds::{Operand, Selection};
 
 // The label of a granule that is kept (1 is yes), or none.
-pub fn kept(j: i64, holds: i64) -> Found
+pub fn kept(j: i64, holds: i64) -> Option<i64>
     ensures { found result ≡ only j (equal holds (pos 1)) }
 {
-    if holds == 1 {
-        Found::At(j)
-    } else {
-        Found::Nothing
-    }
+    if holds == 1 { Some(j) } else { None }
 }
 
 // Fills the working row of a selection, granule by granule of a: each is decided where its first label shows, and its
@@ -35,7 +31,7 @@ fn fill_granules(
     pool: &mut [i32],
     a: Operand,
     b: Operand,
-) -> Filled
+) -> Result<(), Refusal>
     requires fillable { Fillable (Select by) (row_in pool.old a) (row_in pool.old b) }
     requires placed { Placed (Select by) a b span at period pool.old }
     ensures { Fills (over (Select by) pool.old a b) at period pool.old pool.new result }
@@ -77,7 +73,7 @@ fn fill_granules(
         );
         let label = kept(j, decision.holds);
         if !in_limits(label) {
-            return Filled::OutOfRange;
+            return Err(Refusal::LabelOutsideLimits);
         }
         let next = fill_stretch(
             cell_of(label),
@@ -116,7 +112,7 @@ pub fn fill_select(
     pool: &mut [i32],
     a: Operand,
     b: Operand,
-) -> Filled
+) -> Result<(), Refusal>
     requires fillable { Fillable (Select by) (row_in pool.old a) (row_in pool.old b) }
     requires placed { Placed (Select by) a b span at period pool.old }
     ensures { Fills (over (Select by) pool.old a b) at period pool.old pool.new result }

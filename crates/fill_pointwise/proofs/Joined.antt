@@ -1,5 +1,8 @@
 -- A set operation over all pieces: the cells and counts of a piece join those before, and behind the last one the working row is filled.
 -- Assumes nothing.
+use Rattle.calendar.specs.declared.Refusal.TheVariants.{NothingLabelled, LabelOutsideLimits}
+use Rattle.calendar.specs.declared.Refusal.{Refusal}
+use Rattle.std.specs.Prelude.{Err, Ok, Result, ⊤}
 use mathlib.Core.Path.{◌≡◌, refl, sym, ◌∙◌, ap, ap₂, subst}
 use mathlib.Core.Logic.{⊎_elim}
 use mathlib.Core.Option.{Option, none, some}
@@ -31,8 +34,6 @@ use Rattle.kinds.specs.declared.Kind.{Kind}
 use Rattle.kinds.specs.declared.Kind.TheVariants.{ByLabels}
 use Rattle.kinds.specs.declared.SetOperation.{SetOperation}
 use Rattle.kinds.specs.Operations.{operation_of}
-use Rattle.fill_shared.specs.declared.Filled.{Filled}
-use Rattle.fill_shared.specs.declared.Filled.TheVariants.{Labelled, Unlabelled, OutOfRange}
 use Rattle.fill_shared.specs.Placed.{Fills}
 use Rattle.fill_shared.proofs.Working.{out_of_range, filled-out}
 use Rattle.fill_shared.proofs.Filling.{Lent, Filling, row_of, filling-more, filling-done}
@@ -150,7 +151,7 @@ module _ (k : Kind) (a b : Lent) (at period : ℕ) (old : List ℤ) (h : Filling
       subst (λ (i : ℕ). Filling k a b at period old (label_cells S at (suc n) old) (ltb 0 (label_count is_some S (suc n))) i) (add-one n)
       (filling-more k a b at period old _ _ n (labels-filling f n (omega arith)) q (S n) refl _ _ (in-range (S n) (f n q)) refl (labelled-more (label_count is_some S n) (is_some (S n))))
 
-  labels-outside : (u : ℕ) → u < period → (l : Option ℤ) → l ≡ S u → is_outside l ≡ true → Fills o at period old (label_cells S at period old) OutOfRange
+  labels-outside : (u : ℕ) → u < period → (l : Option ℤ) → l ≡ S u → is_outside l ≡ true → Fills o at period old (label_cells S at period old) (Err LabelOutsideLimits)
   labels-outside u m none e f = absurd (true≢false f refl)
   labels-outside u m (some j) e f =
       let i = (not_iff (in_range j)).0 f in
@@ -163,16 +164,16 @@ module _ (k : Kind) (a b : Lent) (at period : ℕ) (old : List ℤ) (h : Filling
       }
 
   -- the answer, by the counts
-  pub labels-fill : (new : List ℤ) (r : Filled) (labelled outside : ℕ) → new ≡ label_cells S at period old → labelled ≡ label_count is_some S period → outside ≡ label_count is_outside S period
-      → r ≡ cond (ltb 0 outside) OutOfRange (cond (ltb 0 labelled) Labelled Unlabelled) → Fills o at period old new r
+  pub labels-fill : (new : List ℤ) (r : Result ⊤ Refusal) (labelled outside : ℕ) → new ≡ label_cells S at period old → labelled ≡ label_count is_some S period → outside ≡ label_count is_outside S period
+      → r ≡ cond (ltb 0 outside) (Err LabelOutsideLimits) (cond (ltb 0 labelled) (Ok tt) (Err NothingLabelled)) → Fills o at period old new r
   labels-fill new r labelled outside e f g q = rw (e, q, f) (⊎_elim out in_all (decided (ltb_iff 0 outside)))
     where
-      out : 0 < outside → Fills o at period old (label_cells S at period old) (cond (ltb 0 outside) OutOfRange (cond (ltb 0 (label_count is_some S period)) Labelled Unlabelled))
+      out : 0 < outside → Fills o at period old (label_cells S at period old) (cond (ltb 0 outside) (Err LabelOutsideLimits) (cond (ltb 0 (label_count is_some S period)) (Ok tt) (Err NothingLabelled)))
       out m =
           let y = count-some is_outside S period (omega arith) in
           rw ((ltb_iff 0 outside).1 m) (labels-outside y.0 y.1 (S y.0) refl y.2)
 
-      in_all : (0 < outside → ⊥) → Fills o at period old (label_cells S at period old) (cond (ltb 0 outside) OutOfRange (cond (ltb 0 (label_count is_some S period)) Labelled Unlabelled))
+      in_all : (0 < outside → ⊥) → Fills o at period old (label_cells S at period old) (cond (ltb 0 outside) (Err LabelOutsideLimits) (cond (ltb 0 (label_count is_some S period)) (Ok tt) (Err NothingLabelled)))
       in_all m =
           let y = labels-filling (count_none is_outside S period (omega arith)) period (omega arith) in
           rw ((false-iff (ltb_iff 0 outside)).1 m) (filling-done k a b at period old _ _ period y (omega arith))

@@ -9,7 +9,7 @@ use native.Mathlib.Omega.{arith}
 use lib.Dec.{ltb}
 use lib.IntN.{ℤ, pos, ◌+ℤ◌}
 use lib.Signed.{◌≤ℤ◌}
-use lib.ListN.{length, get_or, set, length-set}
+use lib.ListN.{get_or, set}
 use lib.Seq.{get_or-set_other}
 use Rattle.integers.proofs.Linear.{ints, ◌∴◌}
 use Rattle.calendar.specs.Lists.{only, is_some, if_label}
@@ -24,10 +24,6 @@ use Rattle.fill_shared.proofs.Filling.{Lent, Filling, row_of, filling-more}
 use Rattle.fill_pointwise.specs.Beside.{kept_at, kept_cells, kept_count}
 
 module _ (c : ℤ) (bare shared : Bool) (from at : ℕ) (pool : List ℤ) where
-  pub kept-length : (n : ℕ) → length (kept_cells c bare shared from at n pool) ≡ length pool
-  kept-length zero = refl
-  kept-length (suc n) = length-set (kept_cells c bare shared from at n pool) (at + n) _ ∙ kept-length n
-
   -- the cells before `at` stay
   pub kept-before : (n i : ℕ) (d : ℤ) → i < at → get_or (kept_cells c bare shared from at n pool) i d ≡ get_or pool i d
   kept-before zero i d h = refl

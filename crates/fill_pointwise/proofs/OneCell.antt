@@ -1,5 +1,8 @@
 -- A set operation one of whose operands has one cell: the label of an instant, by the cell of the other.
 -- Assumes nothing.
+use Rattle.calendar.specs.declared.Refusal.TheVariants.{NothingLabelled}
+use Rattle.calendar.specs.declared.Refusal.{Refusal}
+use Rattle.std.specs.Prelude.{Err, Ok, Result, ⊤}
 use mathlib.Core.Path.{◌≡◌, refl, sym, ◌∙◌, ap, ap₂, subst}
 use mathlib.Core.Option.{Option, none, some}
 use mathlib.Core.Bool.{Bool, true, cond}
@@ -29,8 +32,6 @@ use Rattle.kinds.specs.declared.SetOperation.TheVariants.{Union, Intersection, D
 use Rattle.kinds.specs.declared.Kind.TheVariants.{ByLabels}
 use Rattle.kinds.specs.Operations.{operation_of}
 use Rattle.kinds.specs.Stands.{end, row_in}
-use Rattle.fill_shared.specs.declared.Filled.{Filled}
-use Rattle.fill_shared.specs.declared.Filled.TheVariants.{Labelled, Unlabelled}
 use Rattle.fill_shared.specs.Fillable.{Fillable}
 use Rattle.fill_shared.specs.Placed.{Placed, over, Fills}
 use Rattle.fill_shared.proofs.Cells.{same_rows}
@@ -187,8 +188,8 @@ module _ (set : SetOperation) (a b : Operand) (span : ℤ) (at period : ℕ) (po
     pub beside-room : BesideRoom first other.start at period pool
     beside-room = record { label = (in-range first).0 h.range; labels = o.labels; stands = h.stands; room = p.room; few = p.at-most }
 
-    pub beside-fills : (new : List ℤ) (r : Filled) → new ≡ kept_cells first bare (keeps_shared set) other.start at period pool
-        → r ≡ cond (ltb 0 (kept_count bare (keeps_shared set) other.start period pool)) Labelled Unlabelled → Fills (over (ByLabels set) pool a b) at period pool new r
+    pub beside-fills : (new : List ℤ) (r : Result ⊤ Refusal) → new ≡ kept_cells first bare (keeps_shared set) other.start at period pool
+        → r ≡ cond (ltb 0 (kept_count bare (keeps_shared set) other.start period pool)) (Ok tt) (Err NothingLabelled) → Fills (over (ByLabels set) pool a b) at period pool new r
     beside-fills new r e f =
         let k = ByLabels set in
         let is : (t : ℕ) → t < period → result (operation_of k (row_of (lent_in a) pool) (row_of (lent_in b) pool)) (pos t) ≡ only (first +ℤ pos t) (kept_at bare (keeps_shared set) other.start pool t) =

@@ -69,8 +69,7 @@ pub fn fill_beside(
 {
     let mut label = first;
     let mut count: u32 = 0;
-    let mut t = 0;
-    while t < period {
+    for t in 0..period {
         let mut cell = Calendar::EMPTY;
         if kept(pool[from + t], bare, shared) {
             cell = label;
@@ -78,7 +77,6 @@ pub fn fill_beside(
         }
         pool[at + t] = cell;
         label += 1;
-        t += 1;
     }
     count
 }

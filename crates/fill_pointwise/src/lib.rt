@@ -11,14 +11,15 @@ ghost use Rattle.one_cell.specs.Serves.{Serves};
 ghost use Rattle.kinds.specs.declared.Kind.TheVariants.{ByLabels};
 ghost use Rattle.kinds.specs.Operations.{operation_of};
 ghost use Rattle.kinds.specs.Stands.{row_in};
-ghost use Rattle.fill_shared.specs.declared.Filled.TheVariants.{Labelled, Unlabelled, OutOfRange};
+ghost use Rattle.calendar.specs.declared.Refusal.TheVariants.{NothingLabelled, LabelOutsideLimits};
 ghost use Rattle.fill_shared.specs.Fillable.{Fillable};
 ghost use Rattle.fill_shared.specs.Placed.{Placed, over, Fills};
 ghost use Rattle.fill_pointwise.specs.Decided.{kind_of, set_label, decided_label, later_label};
 ghost use Rattle.fill_pointwise.specs.Scanning.{Scans};
 
-use cursors::{Cursor, Found};
-use fill_shared::{Filled, any, end_of, last_before, outcome, store};
+use calendar::Refusal;
+use cursors::Cursor;
+use fill_shared::{any, end_of, last_before, outcome, store};
 use kinds::{Operand, SetOperation};
 use pieces::{Place, lesser, place_from, place_on};
 use piecewise::fill_piece;
@@ -44,50 +45,50 @@ pub struct Scanning {
 // The label of an instant, and the state before the next one.
 #[derive(Clone, Copy)]
 pub struct Stepped {
-    pub label: Found,
+    pub label: Option<i64>,
     pub next: Scanning,
 }
 
 // The label that a set operation gives an instant with the labels x in a and y in b.
-fn set_label(by: SetOperation, x: Found, y: Found) -> Found
+fn set_label(by: SetOperation, x: Option<i64>, y: Option<i64>) -> Option<i64>
     ensures { found result ≡ set_label by (found x) (found y) }
 {
     match by {
         SetOperation::Union => match x {
-            Found::At(_) => x,
-            Found::Nothing => y,
+            Some(_) => x,
+            None => y,
         },
         SetOperation::Intersection => match y {
-            Found::At(_) => x,
-            Found::Nothing => Found::Nothing,
+            Some(_) => x,
+            None => None,
         },
         SetOperation::Difference => match y {
-            Found::At(_) => Found::Nothing,
-            Found::Nothing => x,
+            Some(_) => None,
+            None => x,
         },
     }
 }
 
 // The label of an instant with the labels x in a and y in b, where the last label of b is `last`.
-fn decided(by: Pointwise, x: Found, y: Found, last: i64) -> Found
+fn decided(by: Pointwise, x: Option<i64>, y: Option<i64>, last: i64) -> Option<i64>
     ensures { found result ≡ decided_label by (found x) (found y) last }
 {
     match by {
         Pointwise::Anchor => match x {
-            Found::At(_) => Found::At(last),
-            Found::Nothing => Found::Nothing,
+            Some(_) => Some(last),
+            None => None,
         },
         Pointwise::ByLabels(set) => set_label(set, x, y),
     }
 }
 
 // The last label of b, given that before the instant and the instant's own.
-fn later(last: i64, y: Found) -> i64
+fn later(last: i64, y: Option<i64>) -> i64
     ensures { result ≡ later_label last (found y) }
 {
     match y {
-        Found::At(k) => k,
-        Found::Nothing => last,
+        Some(k) => k,
+        None => last,
     }
 }
 
@@ -117,7 +118,7 @@ pub fn step(
     next.last = later(s.last, other);
     Stepped {
         label: decided(by, label, other, next.last),
-        next: next,
+        next,
     }
 }
 
@@ -130,7 +131,7 @@ fn fill_stepped(
     pool: &mut [i32],
     a: Operand,
     b: Operand,
-) -> Filled
+) -> Result<(), Refusal>
     requires fillable { Fillable (kind_of by) (row_in pool.old a) (row_in pool.old b) }
     requires placed { Placed (kind_of by) a b span at period pool.old }
     ensures { Fills (over (kind_of by) pool.old a b) at period pool.old pool.new result }
@@ -146,14 +147,9 @@ fn fill_stepped(
     let c = cursors::cursor_at(&pool[a_start..a_end], a_period, a_distance, 0);
     let d = cursors::cursor_at(&pool[b_start..b_end], b_period, b_distance, 0);
     let last = last_before(&pool[b_start..b_end], b_period, b_distance);
-    let mut s = Scanning {
-        a: c,
-        b: d,
-        last: last,
-    };
+    let mut s = Scanning { a: c, b: d, last };
     let mut labelled = false;
-    let mut t = 0;
-    while t < period {
+    for t in 0..period {
         let stepped = step(
             by,
             s,
@@ -167,21 +163,20 @@ fn fill_stepped(
         );
         let label = stepped.label;
         if !store(label, at + t, &mut *pool) {
-            return Filled::OutOfRange;
+            return Err(Refusal::LabelOutsideLimits);
         }
         labelled = any(labelled, label);
         s = stepped.next;
-        t += 1;
     }
     outcome(labelled)
 }
 
 // What a working row is, by how many of its instants have a label and how many of the labels are outside the limits.
-fn counted_outcome(labelled: u32, outside: u32) -> Filled
-    ensures { result ≡ cond (ltb 0 outside) OutOfRange (cond (ltb 0 labelled) Labelled Unlabelled) }
+fn counted_outcome(labelled: u32, outside: u32) -> Result<(), Refusal>
+    ensures { result ≡ cond (ltb 0 outside) (Err LabelOutsideLimits) (cond (ltb 0 labelled) (Ok tt) (Err NothingLabelled)) }
 {
     if outside > 0 {
-        Filled::OutOfRange
+        Err(Refusal::LabelOutsideLimits)
     } else {
         outcome(labelled > 0)
     }
@@ -196,7 +191,7 @@ fn fill_pieces(
     pool: &mut [i32],
     a: Operand,
     b: Operand,
-) -> Filled
+) -> Result<(), Refusal>
     requires fillable { Fillable (ByLabels set) (row_in pool.old a) (row_in pool.old b) }
     requires placed { Placed (ByLabels set) a b span at period pool.old }
     ensures { Fills (over (ByLabels set) pool.old a b) at period pool.old pool.new result }
@@ -235,7 +230,7 @@ fn fill_first(
     pool: &mut [i32],
     a: Operand,
     b: Operand,
-) -> Filled
+) -> Result<(), Refusal>
     requires fillable { Fillable (ByLabels set) (row_in pool.old a) (row_in pool.old b) }
     requires placed { Placed (ByLabels set) a b span at period pool.old }
     requires serves { Serves a.period (get_or pool.old a.start (pos 0)) period }
@@ -259,7 +254,7 @@ fn fill_second(
     pool: &mut [i32],
     a: Operand,
     b: Operand,
-) -> Filled
+) -> Result<(), Refusal>
     requires fillable { Fillable (ByLabels set) (row_in pool.old a) (row_in pool.old b) }
     requires placed { Placed (ByLabels set) a b span at period pool.old }
     requires serves { Serves b.period (get_or pool.old b.start (pos 0)) period }
@@ -283,7 +278,7 @@ fn fill_set(
     pool: &mut [i32],
     a: Operand,
     b: Operand,
-) -> Filled
+) -> Result<(), Refusal>
     requires fillable { Fillable (ByLabels set) (row_in pool.old a) (row_in pool.old b) }
     requires placed { Placed (ByLabels set) a b span at period pool.old }
     ensures { Fills (over (ByLabels set) pool.old a b) at period pool.old pool.new result }
@@ -308,7 +303,7 @@ pub fn fill_pointwise(
     pool: &mut [i32],
     a: Operand,
     b: Operand,
-) -> Filled
+) -> Result<(), Refusal>
     requires fillable { Fillable (kind_of by) (row_in pool.old a) (row_in pool.old b) }
     requires placed { Placed (kind_of by) a b span at period pool.old }
     ensures { Fills (over (kind_of by) pool.old a b) at period pool.old pool.new result }

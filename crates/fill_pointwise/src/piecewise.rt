@@ -71,8 +71,7 @@ pub fn fill_piece(
     let b_rise = b.rise as i32;
     let mut labelled: u32 = 0;
     let mut outside: u32 = 0;
-    let mut i = 0;
-    while i < count {
+    for i in 0..count {
         let x = raised(pool[a_cell + i], a_rise);
         let y = raised(pool[b_cell + i], b_rise);
         let cell = chosen(first, shared, second, x, y);
@@ -80,10 +79,6 @@ pub fn fill_piece(
         let counts = counted(cell);
         labelled += counts.labelled;
         outside += counts.outside;
-        i += 1;
     }
-    Counts {
-        labelled: labelled,
-        outside: outside,
-    }
+    Counts { labelled, outside }
 }

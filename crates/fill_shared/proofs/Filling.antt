@@ -1,5 +1,8 @@
 -- A loop that fills a working row, for any kind: what holds before the instant t, what its step is given, and what holds after it.
 -- Assumes nothing.
+use Rattle.calendar.specs.declared.Refusal.TheVariants.{NothingLabelled, LabelOutsideLimits}
+use Rattle.calendar.specs.declared.Refusal.{Refusal}
+use Rattle.std.specs.Prelude.{Err, Ok, Result, ⊤}
 use mathlib.Core.Path.{◌≡◌, refl, sym, ◌∙◌, ap, subst}
 use mathlib.Core.Option.{Option, none, some}
 use mathlib.Core.Bool.{Bool, true, false, cond, ◌||◌}
@@ -27,8 +30,6 @@ use Rattle.kinds.specs.declared.Kind.{Kind}
 use Rattle.kinds.specs.declared.Operand.{Operand}
 use Rattle.kinds.specs.Operations.{operation_of, operands}
 use Rattle.kinds.specs.Stands.{end, row_in}
-use Rattle.fill_shared.specs.declared.Filled.{Filled}
-use Rattle.fill_shared.specs.declared.Filled.TheVariants.{Labelled, Unlabelled, OutOfRange}
 use Rattle.fill_shared.specs.Fillable.{Fillable, Written}
 use Rattle.fill_shared.specs.Placed.{Placed, filled_as, Fills}
 use Rattle.fill_shared.proofs.Cells.{same_rows, part-kept}
@@ -133,11 +134,11 @@ module _ (k : Kind) (a b : Lent) (at period : ℕ) (old : List ℤ) where
           writes = rw (p, q) (writes_more o at old r new labelled t h.writes l before-end e i);
         }
 
-        outside : (x : Option ℤ) → x ≡ result o (pos t) → if_label x in_range ≡ false → (OutOfRange ≡ filled_as o) × (labels_in_range o ≡ false)
+        outside : (x : Option ℤ) → x ≡ result o (pos t) → if_label x in_range ≡ false → ((Err LabelOutsideLimits) ≡ filled_as o) × (labels_in_range o ≡ false)
         outside none y i = absurd (true≢false refl i)
         outside (some j) y i = (filled-out o t before-end j y i, out_of_range o t before-end j y i)
 
-        pub filling-out : (pool : List ℤ) → pool ≡ new → if_label l in_range ≡ false → Fills o at period old pool OutOfRange
+        pub filling-out : (pool : List ℤ) → pool ≡ new → if_label l in_range ≡ false → Fills o at period old pool (Err LabelOutsideLimits)
         filling-out pool q i = let y = outside l e i in record {
           answer = y.0;
           lengths = ap length q ∙ filling-length;
@@ -149,11 +150,11 @@ module _ (k : Kind) (a b : Lent) (at period : ℕ) (old : List ℤ) where
       done : (size o).period ≤ t
       done = omega (arith, h.lends.is-period)
 
-      answer : (f : Bool) → f ≡ labelled → cond f Labelled Unlabelled ≡ filled_as o
+      answer : (f : Bool) → f ≡ labelled → cond f (Ok tt) (Err NothingLabelled) ≡ filled_as o
       answer true e = writes-labelled o at old r new labelled t h.writes done (sym e)
       answer false e = writes-unlabelled o at old r new labelled t h.writes done (sym e)
 
-      pub filling-done : Fills o at period old new (cond labelled Labelled Unlabelled)
+      pub filling-done : Fills o at period old new (cond labelled (Ok tt) (Err NothingLabelled))
       filling-done = record {
         answer = answer labelled refl;
         lengths = filling-length;
@@ -189,7 +190,7 @@ module _ (k k' : Kind) (q : k ≡ k') (a b : Operand) (span : ℤ) (at period : 
           is-period = x.1;
         }
 
-    pub fills_two : (new : List ℤ) (r : Filled) → Fills (operation_of k (row_of (lent_of a e) pool) (row_of (lent_of b f) pool)) at period pool new r
+    pub fills_two : (new : List ℤ) (r : Result ⊤ Refusal) → Fills (operation_of k (row_of (lent_of a e) pool) (row_of (lent_of b f) pool)) at period pool new r
         → Fills (operation_of k' (row_in pool a) (row_in pool b)) at period pool new r
     fills_two new r h =
         subst (λ (m : Kind). Fills (operation_of m (row_in pool a) (row_in pool b)) at period pool new r) q
@@ -217,7 +218,7 @@ module _ (k k' : Kind) (q : k ≡ k') (a b : Operand) (span : ℤ) (at period : 
           is-period = x.1;
         }
 
-    pub fills_one : (new : List ℤ) (r : Filled) → Fills (operation_of k (row_of (lent_of a e) pool) (row_of (lent_of a e) pool)) at period pool new r
+    pub fills_one : (new : List ℤ) (r : Result ⊤ Refusal) → Fills (operation_of k (row_of (lent_of a e) pool) (row_of (lent_of a e) pool)) at period pool new r
         → Fills (operation_of k' (row_in pool a) (row_in pool b)) at period pool new r
     fills_one new r h =
         subst (λ (m : Kind). Fills (operation_of m (row_in pool a) (row_in pool b)) at period pool new r) q

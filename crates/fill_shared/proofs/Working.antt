@@ -1,5 +1,7 @@
 -- The working row as it is filled in, instant by instant: its cells, and what its labels are.
 -- Assumes nothing.
+use Rattle.calendar.specs.declared.Refusal.TheVariants.{NothingLabelled, LabelOutsideLimits}
+use Rattle.std.specs.Prelude.{Err, Ok}
 use mathlib.Core.Path.{◌≡◌, refl, sym, ◌∙◌, ap}
 use mathlib.Core.Logic.{◌↔◌, ◌⊎◌, inl, inr, ⊎_elim, ⊎_map}
 use mathlib.Core.Option.{Option, none, some}
@@ -27,7 +29,6 @@ use Rattle.granules.proofs.Tests.{true-or-false, true≢false, or-iff, not_iff, 
 use Rattle.granules.proofs.Lists.{all-iff, mem-from, length_from}
 use Rattle.algebra.proofs.Working.{get_or-map-from, in_range-iff}
 use Rattle.cursors.proofs.Cells.{label-full}
-use Rattle.fill_shared.specs.declared.Filled.TheVariants.{Labelled, Unlabelled, OutOfRange}
 use Rattle.fill_shared.specs.Fillable.{Written}
 use Rattle.fill_shared.specs.Placed.{filled_as}
 
@@ -81,7 +82,7 @@ module _ (o : Operation Row) (t : ℕ) (h : t < (size o).period) (j : ℤ) (e : 
   unfolding labels_in_range
   out_of_range = throughout-fails o (λ l. if_label l in_range) t h (ap (λ (l : Option ℤ). if_label l in_range) (sym e) ∙ r)
 
-  pub filled-out : OutOfRange ≡ filled_as o
+  pub filled-out : (Err LabelOutsideLimits) ≡ filled_as o
   filled-out = rw (labelled-one o t h (ap is_some (sym e)), out_of_range)
 
 -- ---- the loop
@@ -168,10 +169,10 @@ module _ (o : Operation Row) (at : ℕ) (old : List ℤ) (room : at + (size o).p
       unfolding labels_in_range
       all-in-range = (throughout-iff o (λ l. if_label l in_range)).1 (λ u h. w.within u (omega arith))
 
-      pub writes-labelled : labelled ≡ true → Labelled ≡ filled_as o
+      pub writes-labelled : labelled ≡ true → (Ok tt) ≡ filled_as o
       writes-labelled e = let y = w.is-labelled.0 e in rw (labelled-one o y.0 (omega (arith, w.at-most, y.1)) y.2, all-in-range)
 
-      pub writes-unlabelled : labelled ≡ false → Unlabelled ≡ filled_as o
+      pub writes-unlabelled : labelled ≡ false → (Err NothingLabelled) ≡ filled_as o
       writes-unlabelled e = rw (labelled-none o (λ u h x. true≢false (w.is-labelled.1 (u, omega arith, x)) e))
 
       pub writes-all : new ≡ take at old ++ ((working o).cells ++ drop (at + (size o).period) old)

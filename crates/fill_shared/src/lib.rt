@@ -10,19 +10,10 @@ ghost use Rattle.calendar.specs.Limits.{in_range};
 ghost use Rattle.calendar.specs.Questions.{given};
 ghost use Rattle.cursors.specs.Found.{found, Sound};
 ghost use Rattle.kinds.specs.Stands.{end};
-ghost use Rattle.fill_shared.specs.declared.Filled.TheVariants.{Labelled, Unlabelled};
+ghost use Rattle.calendar.specs.declared.Refusal.TheVariants.{NothingLabelled};
 
-use calendar::Calendar;
-use cursors::Found;
+use calendar::{Calendar, Refusal};
 use kinds::Operand;
-
-// What the labels of a working row are.
-#[derive(Clone, Copy)]
-pub enum Filled {
-    Labelled,
-    Unlabelled,
-    OutOfRange,
-}
 
 // The number that the labels from low to high all get.
 #[derive(Clone, Copy)]
@@ -53,7 +44,7 @@ pub fn end_of(a: Operand, at: usize) -> usize
 }
 
 // Writes the cell of a label, or of none, at i; false, and nothing, where the label is outside the limits.
-pub fn store(label: Found, i: usize, pool: &mut [i32]) -> bool
+pub fn store(label: Option<i64>, i: usize, pool: &mut [i32]) -> bool
     requires { i < length pool.old }
     ensures within { result ≡ if_label (found label) in_range }
     ensures length { length pool.new ≡ length pool.old }
@@ -61,14 +52,14 @@ pub fn store(label: Found, i: usize, pool: &mut [i32]) -> bool
     ensures kept { result ≡ false → pool.new ≡ pool.old }
 {
     match label {
-        Found::At(j) => {
+        Some(j) => {
             if !Calendar::in_range(j) {
                 return false;
             }
             pool[i] = j as i32;
             true
         }
-        Found::Nothing => {
+        None => {
             pool[i] = Calendar::EMPTY;
             true
         }
@@ -76,23 +67,20 @@ pub fn store(label: Found, i: usize, pool: &mut [i32]) -> bool
 }
 
 // Whether there is a label, this one or one before.
-pub fn any(labelled: bool, label: Found) -> bool
+pub fn any(labelled: bool, label: Option<i64>) -> bool
     ensures { result ≡ is_some (found label) || labelled }
 {
-    match label {
-        Found::At(_) => true,
-        Found::Nothing => labelled,
-    }
+    label.is_some() || labelled
 }
 
 // What a working row is whose labels are all within the limits.
-pub fn outcome(labelled: bool) -> Filled
-    ensures { result ≡ cond labelled Labelled Unlabelled }
+pub fn outcome(labelled: bool) -> Result<(), Refusal>
+    ensures { result ≡ cond labelled (Ok tt) (Err NothingLabelled) }
 {
     if labelled {
-        Filled::Labelled
+        Ok(())
     } else {
-        Filled::Unlabelled
+        Err(Refusal::NothingLabelled)
     }
 }
 
@@ -105,10 +93,10 @@ pub fn last_before(cells: &[i32], period: i64, distance: i64) -> i64
     loop {
         let label = cursors::cursor_label(cells, period, distance, c);
         match label {
-            Found::At(j) => {
+            Some(j) => {
                 return j;
             }
-            Found::Nothing => {}
+            None => {}
         }
         c = cursors::cursor_back(cells, period, distance, c);
     }

@@ -48,15 +48,6 @@ pub record Grown (c h : ℤ) (r : Row) (at size t₀ : ℕ) (old new : List ℤ)
   pub below : (u : ℕ) (l : ℤ) → t₀ ≤ u → u < t → meant r (pos u) ≡ some l → l ≤ℤ h
 
 module _ (c h : ℤ) (r : Row) (at size t₀ : ℕ) (old : List ℤ) where
-  pub grown-none : (cursor : Cursor) → t₀ ≤ size → cursor ≡ cursor_at r (pos t₀) → Grown c h r at size t₀ old old cursor t₀
-  grown-none cursor m e = record {
-    on = omega arith;
-    in-room = m;
-    is-cursor = e;
-    cells = ap (λ (n : ℕ). stretched c r at t₀ n old) {x = 0} {y = t₀ - t₀} (omega arith);
-    below = λ u l i j. absurd (omega arith);
-  }
-
   module _ (new : List ℤ) (cursor : Cursor) (t : ℕ) (g : Grown c h r at size t₀ old new cursor t) where
     pub grown-length : length new ≡ length old
     grown-length = ap length g.cells ∙ stretched-length c r at t₀ old (t - t₀)

@@ -8,8 +8,10 @@ use Prim.Native.Nat.{ℕ, zero, suc, ◌+◌, ◌-◌, ◌≤◌, ◌<◌}
 use native.Mathlib.Omega.{arith}
 use lib.IntN.{ℤ, pos, ◌+ℤ◌, ◌-ℤ◌}
 use lib.Signed.{◌≤ℤ◌, ◌<ℤ◌}
-use lib.ListN.{length, set, get_or, take, drop, length-set, length-drop}
-use lib.Seq.{get_or-take, get_or-drop, length-take-le}
+use lib.ListN.{length, replicate, set, get_or, take, drop, length-drop}
+use lib.Seq.{paste, paste-zero, get_or-take, get_or-drop, length-take-le}
+use Rattle.std.proofs.Common.{add-one}
+use Rattle.std.proofs.lemmas.List.Edits.{fill_from_more}
 use Rattle.integers.proofs.Linear.{ints, ◌∴◌}
 use Rattle.calendar.specs.Limits.{in_range}
 use Rattle.calendar.specs.Meaning.{Row, meant, empty}
@@ -22,17 +24,10 @@ use Rattle.fill_stretches.specs.Stretch.{cell_where, row_from, stretched, writte
 -- ---- the cells that are written
 
 module _ (c : ℤ) (k : ℕ) (pool : List ℤ) where
-  pub written-length : (n : ℕ) → length (written c k n pool) ≡ length pool
-  written-length zero = refl
-  written-length (suc n) = length-set (written c k n pool) (k + n) c ∙ written-length n
-
-  -- one cell more
-  pub written-more : (i : ℕ) (new : List ℤ) → k ≤ i → new ≡ written c k (i - k) pool
-      → set new i c ≡ written c k (i + 1 - k) pool
-  written-more i new h e =
-      let y : i ≡ k + (i - k) = omega arith in
-      let m : suc (i - k) ≡ i + 1 - k = omega arith in
-      ap₂ (λ (l : List ℤ) (m : ℕ). set l m c) e y ∙ ap (λ (n : ℕ). written c k n pool) m
+  -- they are n copies of c
+  pub written-paste : (n : ℕ) → k + n ≤ length pool → written c k n pool ≡ paste pool k (replicate n c) n
+  written-paste zero h = paste-zero pool k (replicate 0 c)
+  written-paste (suc n) h = ap (λ (l : List ℤ). set l (k + n) c) (written-paste n (omega arith)) ∙ (rw (add-one n) at (fill_from_more pool k n c (omega arith)))
 
 -- where every instant has a label, all cells of a stretch are alike
 stretched-written : (c : ℤ) (r : Row) (label : ℕ → ℤ) → ((u : ℕ) → meant r (pos u) ≡ some (label u))

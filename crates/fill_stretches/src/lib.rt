@@ -10,7 +10,7 @@ ghost use Rattle.cursors.specs.Found.{found};
 ghost use Rattle.fill_stretches.specs.Stretch.{row_from, written, Room, Follows, InReach, Ends, Stretched, Led};
 
 use calendar::Calendar;
-use cursors::{Cursor, Found};
+use cursors::Cursor;
 
 // Below every label of a row.
 const BELOW_LABELS: i64 = -9223372036854775807;
@@ -23,23 +23,23 @@ pub struct Reached {
 }
 
 // Whether a label, where there is one, is within the limits.
-pub fn in_limits(label: Found) -> bool
+pub fn in_limits(label: Option<i64>) -> bool
     ensures { result ≡ if_label (found label) in_range }
 {
     match label {
-        Found::At(j) => Calendar::in_range(j),
-        Found::Nothing => true,
+        Some(j) => Calendar::in_range(j),
+        None => true,
     }
 }
 
 // The cell of such a label.
-pub fn cell_of(label: Found) -> i32
+pub fn cell_of(label: Option<i64>) -> i32
     requires { if_label (found label) in_range ≡ true }
     ensures { result ≡ cell_of (found label) }
 {
     match label {
-        Found::At(j) => j as i32,
-        Found::Nothing => Calendar::EMPTY,
+        Some(j) => j as i32,
+        None => Calendar::EMPTY,
     }
 }
 
@@ -48,11 +48,7 @@ fn fill_cells(pool: &mut [i32], cell: i32, from: usize, to: usize)
     requires { (from ≤ to) × (to ≤ length pool.old) }
     ensures { pool.new ≡ written cell from (to - from) pool.old }
 {
-    let mut i = from;
-    while i < to {
-        pool[i] = cell;
-        i += 1;
-    }
+    pool[from..to].fill(cell);
 }
 
 // The first instant from t on whose label is above `high`, or `size`, where the label of an instant u is `first` + u.
@@ -115,24 +111,22 @@ fn fill_along(
     ensures { Stretched cell high (row_from start end period distance pool.old) at size pool.old from result pool.new }
 {
     let mut cursor = from.cursor;
-    let mut t = from.t;
-    while t < size {
+    for t in from.t..size {
         let label = cursors::cursor_label(&pool[start..end], period, distance, cursor);
         let mut written = Calendar::EMPTY;
         match label {
-            Found::At(j) => {
+            Some(j) => {
                 if high < j {
                     return Reached { t, cursor };
                 }
                 written = cell;
             }
-            Found::Nothing => {}
+            None => {}
         }
         pool[at + t] = written;
         cursor = cursors::cursor_next(&pool[start..end], period, distance, cursor);
-        t += 1;
     }
-    Reached { t, cursor }
+    Reached { t: size, cursor }
 }
 
 // Fills the cells of the instants that follow, as far as the row has no label above `high`, and not beyond `size` instants: `cell` where the row has a

@@ -1,5 +1,7 @@
 -- The end of a loop over one row: as the row has a label, the working row has one.
 -- Assumes nothing.
+use Rattle.calendar.specs.declared.Refusal.TheVariants.{NothingLabelled}
+use Rattle.std.specs.Prelude.{Err, Ok}
 use mathlib.Core.Path.{◌≡◌, ◌∙◌, ap, subst}
 use mathlib.Core.Option.{map}
 use mathlib.Core.Bool.{Bool, true, cond}
@@ -21,7 +23,6 @@ use Rattle.kinds.specs.declared.Kind.{Kind}
 use Rattle.kinds.specs.declared.Kind.TheVariants.{Bottom, Group, Shift, Alter, Combine, Anchor, Select, ByLabels, Renumber}
 use Rattle.kinds.specs.Operations.{operation_of, operands}
 use Rattle.fill_shared.specs.Fillable.{Fillable}
-use Rattle.fill_shared.specs.declared.Filled.TheVariants.{Labelled, Unlabelled}
 use Rattle.fill_shared.specs.Placed.{Fills}
 use Rattle.fill_shared.proofs.Filling.{Lent, Filling, row_of, filling-done}
 
@@ -55,7 +56,7 @@ module _ (k : Kind) (one : operands k ≡ 1) (a b : Lent) (at period : ℕ) (old
       let l = label-in k (row_of a old) (row_of b old) one h.lends.is-fillable in
       h.writes.is-labelled.1 (l.0, omega (arith, l.1, h.lends.is-period), l.2)
 
-  pub labelled-done : Fills (operation_of k (row_of a old) (row_of b old)) at period old new Labelled
+  pub labelled-done : Fills (operation_of k (row_of a old) (row_of b old)) at period old new (Ok tt)
   labelled-done =
-      subst (λ (f : Bool). Fills (operation_of k (row_of a old) (row_of b old)) at period old new (cond f Labelled Unlabelled)) is-labelled
+      subst (λ (f : Bool). Fills (operation_of k (row_of a old) (row_of b old)) at period old new (cond f (Ok tt) (Err NothingLabelled))) is-labelled
       (filling-done k a b at period old new labelled t h done)

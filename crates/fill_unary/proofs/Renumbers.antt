@@ -1,5 +1,7 @@
 -- The turns of the loop that renumbers labels: it keeps the last label and its number.
 -- Assumes nothing.
+use Rattle.calendar.specs.declared.Refusal.TheVariants.{NothingLabelled, LabelOutsideLimits}
+use Rattle.std.specs.Prelude.{Err, Ok}
 use mathlib.Core.Path.{◌≡◌, refl, sym, ◌∙◌, ap, subst}
 use mathlib.Core.Option.{Option, map}
 use mathlib.Core.Bool.{Bool, true, false, cond, ◌||◌}
@@ -23,7 +25,6 @@ use Rattle.calendar.specs.Limits.{in_range, pool_limit}
 use Rattle.granules.specs.Valid.{Valid}
 use Rattle.cursors.proofs.Numbers.{numbers, valid}
 use Rattle.kinds.specs.declared.Kind.TheVariants.{Renumber}
-use Rattle.fill_shared.specs.declared.Filled.TheVariants.{Labelled, Unlabelled, OutOfRange}
 use Rattle.fill_shared.specs.Placed.{Fills}
 use Rattle.fill_shared.proofs.Filling.{Lent, Filling, row_of, a-kept, filling-length, filling-ends, filling-index, filling-more, filling-out, filling-done}
 use Rattle.fill_unary.specs.Counts.{Counts}
@@ -90,13 +91,13 @@ module _ {x : ℤ} {a : Lent} {at period : ℕ} {old new : List ℤ} {last numbe
         counts = s.1;
       }
 
-      pub renumbers-out : if_label l in_range ≡ false → Fills o at period old new OutOfRange
+      pub renumbers-out : if_label l in_range ≡ false → Fills o at period old new (Err LabelOutsideLimits)
       renumbers-out i = filling-out (Renumber x) a a at period old new h.labelled t h.filling m l s.0 new refl i
 
   -- a sound row has a label
-  pub renumbers-done : period ≤ t → Fills o at period old new Labelled
+  pub renumbers-done : period ≤ t → Fills o at period old new (Ok tt)
   renumbers-done m =
       let l = labelled-first r rules in
       let e : h.labelled ≡ true =
       h.filling.writes.is-labelled.1 (l.0, omega (arith, l.2, whole), ap is_some (result-is x r (pos l.0) ∙ ap (map (renumbered r x)) l.3)) in
-      subst (λ (b : Bool). Fills o at period old new (cond b Labelled Unlabelled)) e (filling-done (Renumber x) a a at period old new h.labelled t h.filling m)
+      subst (λ (b : Bool). Fills o at period old new (cond b (Ok tt) (Err NothingLabelled))) e (filling-done (Renumber x) a a at period old new h.labelled t h.filling m)

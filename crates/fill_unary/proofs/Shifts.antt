@@ -1,5 +1,7 @@
 -- The turns of the loop that shifts labels. It writes the cells of all instants, and counts the labels outside the limits.
 -- Assumes nothing.
+use Rattle.calendar.specs.declared.Refusal.TheVariants.{LabelOutsideLimits}
+use Rattle.std.specs.Prelude.{Err, Ok}
 use mathlib.Core.Path.{◌≡◌, refl, sym, ◌∙◌, ap}
 use mathlib.Core.Logic.{◌↔◌, ◌⊎◌, inl, inr, ⊎_elim}
 use mathlib.Core.Option.{Option, none, some}
@@ -30,7 +32,6 @@ use Rattle.cursors.specs.Found.{Within}
 use Rattle.cursors.proofs.Bounds.{cell-bound}
 use Rattle.kinds.specs.declared.Operand.{Operand}
 use Rattle.kinds.specs.Stands.{end, row_in}
-use Rattle.fill_shared.specs.declared.Filled.TheVariants.{Labelled, OutOfRange}
 use Rattle.fill_shared.specs.Placed.{filled_as, Fills}
 use Rattle.fill_shared.proofs.Cells.{row_kept}
 use Rattle.fill_shared.proofs.Working.{Writes, working-length, working-at, paste-before, writes-labelled, writes-all, out_of_range, filled-out}
@@ -156,11 +157,11 @@ module _ {x : ℤ} {a : Operand} {at period : ℕ} {old : List ℤ} (s : Shifts 
       done : (size o).period ≤ t
       done = omega (arith, size_is)
 
-      out_at : (u : ℕ) → u < t → (l : Option ℤ) → l ≡ result o (pos u) → if_label l in_range ≡ false → (OutOfRange ≡ filled_as o) × (labels_in_range o ≡ false)
+      out_at : (u : ℕ) → u < t → (l : Option ℤ) → l ≡ result o (pos u) → if_label l in_range ≡ false → ((Err LabelOutsideLimits) ≡ filled_as o) × (labels_in_range o ≡ false)
       out_at u h none e f = absurd (true≢false refl f)
       out_at u h (some j) e f = let b : u < (size o).period = omega (arith, w.at-most) in (filled-out o u b j e f, out_of_range o u b j e f)
 
-      pub shifted-out : 0 < outside → Fills o at period old new OutOfRange
+      pub shifted-out : 0 < outside → Fills o at period old new (Err LabelOutsideLimits)
       shifted-out e =
           let y = w.is-outside.0 e in
           let q = out_at y.0 y.1 (result o (pos y.0)) refl y.2 in
@@ -180,7 +181,7 @@ module _ {x : ℤ} {a : Operand} {at period : ℕ} {old : List ℤ} (s : Shifts 
         is-labelled = (λ q. labelled, λ y. refl);
       }
 
-      pub shifted-done : outside ≤ 0 → Fills o at period old new Labelled
+      pub shifted-done : outside ≤ 0 → Fills o at period old new (Ok tt)
       shifted-done e =
           let room : at + (size o).period ≤ length old = omega (arith, size_is, s.room) in
           let h = all-written e in

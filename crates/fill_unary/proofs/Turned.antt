@@ -1,5 +1,7 @@
 -- A turn of the loop that groups labels: its cells are written one after the other, and then the turns before and this one are.
 -- Assumes nothing.
+use Rattle.calendar.specs.declared.Refusal.TheVariants.{LabelOutsideLimits}
+use Rattle.std.specs.Prelude.{Err}
 use mathlib.Core.Path.{◌≡◌, refl, sym, ◌∙◌, ap, subst}
 use mathlib.Core.Logic.{⊎_elim, ⊎_map, ◌⊎◌, inl, inr}
 use mathlib.Core.Option.{Option, some}
@@ -10,7 +12,7 @@ use native.Mathlib.Numerals.{add-one}
 use native.Mathlib.Nat.{mul-le-mul_left, mul-suc, div-add-mod}
 use native.Mathlib.Omega.{arith}
 use lib.IntN.{ℤ, pos}
-use lib.ListN.{length, length-set, get_or, set}
+use lib.ListN.{length, get_or, set}
 use lib.Seq.{get_or-set_other}
 use Rattle.integers.specs.Parts.{up}
 use Rattle.integers.specs.Floor.{floor_mod}
@@ -27,7 +29,6 @@ use Rattle.cursors.proofs.Cursors.{cursor-at}
 use Rattle.algebra.proofs.Pointwise.{group-period}
 use Rattle.kinds.specs.declared.Kind.TheVariants.{Group}
 use Rattle.kinds.specs.Operations.{operation_of}
-use Rattle.fill_shared.specs.declared.Filled.TheVariants.{OutOfRange}
 use Rattle.fill_shared.proofs.Points.{label_small}
 use Rattle.fill_shared.specs.Placed.{Fills}
 use Rattle.fill_shared.proofs.Filling.{Lent, Filling, row_of, filling-more, filling-out, a-kept, filling-ends}
@@ -38,11 +39,6 @@ use Rattle.fill_unary.proofs.Groups.{group_of}
 -- ---- the cells of a turn
 
 module _ (x rise : ℤ) (start to : ℕ) (old : List ℤ) where
-  pub grouped-length : (n : ℕ) → length (grouped x rise start to old n) ≡ length old
-  unfolding grouped
-  grouped-length zero = refl
-  grouped-length (suc n) = length-set (grouped x rise start to old n) (to + n) _ ∙ grouped-length n
-
   -- the cells before `to` stay
   pub grouped-below : (n k : ℕ) (d : ℤ) → k < to → get_or (grouped x rise start to old n) k d ≡ get_or old k d
   unfolding grouped
@@ -147,7 +143,7 @@ module _ (x : ℤ) (a : Lent) (at period : ℕ) (old new : List ℤ) (labelled :
 
   -- the group of the cell behind them is outside the limits
   pub turn-outside : (i : ℕ) → i < a.end - a.start → (j : ℤ) → some j ≡ group_at x z a.start new i → in_range j ≡ false
-      → (pool : List ℤ) → Grouped x z a.start (at + t) new pool i → Fills o at period old pool OutOfRange
+      → (pool : List ℤ) → Grouped x z a.start (at + t) new pool i → Fills o at period old pool (Err LabelOutsideLimits)
   turn-outside i m j e r pool g =
       let d = turned-cells i (omega arith) pool g in
       filling-out _ _ _ _ _ _ _ _ _ d.1 (omega arith) (some j) (e ∙ group-is i m) pool refl r

@@ -12,8 +12,8 @@ ghost use Rattle.fill_shared.specs.Fillable.{Fillable};
 ghost use Rattle.fill_shared.specs.Placed.{Placed, over, Fills};
 ghost use Rattle.fill_unary.specs.Grouped.{Knows, Small, Grouped, group_at};
 
-use calendar::Calendar;
-use fill_shared::{Filled, Known, covers, end_of};
+use calendar::{Calendar, Refusal};
+use fill_shared::{Known, covers, end_of};
 use fill_stretches::{fill_leading, fill_stretch};
 use kinds::Operand;
 
@@ -57,8 +57,7 @@ fn fill_turn(
     ensures outside { in_range result.number ≡ false → (i : ℕ) × (i < count) × (some result.number ≡ group_at x rise start pool.old i) × Grouped x rise start to pool.old pool.new i }
 {
     let mut known = from;
-    let mut i = 0;
-    while i < count {
+    for i in 0..count {
         let cell = pool[start + i];
         let mut label = Calendar::EMPTY;
         if cell != Calendar::EMPTY {
@@ -72,7 +71,6 @@ fn fill_turn(
             label = known.number as i32;
         }
         pool[to + i] = label;
-        i += 1;
     }
     known
 }
@@ -86,7 +84,7 @@ fn fill_turns(
     pool: &mut [i32],
     a: Operand,
     b: Operand,
-) -> Filled
+) -> Result<(), Refusal>
     requires fillable { Fillable (Group x) (row_in pool.old a) (row_in pool.old b) }
     requires placed { Placed (Group x) a b span at period pool.old }
     ensures { Fills (over (Group x) pool.old a b) at period pool.old pool.new result }
@@ -105,12 +103,12 @@ fn fill_turns(
     while t < period {
         known = fill_turn(x, rise, known, start, at + t, count, &mut *pool);
         if !Calendar::in_range(known.number) {
-            return Filled::OutOfRange;
+            return Err(Refusal::LabelOutsideLimits);
         }
         rise += a_distance;
         t += count;
     }
-    Filled::Labelled
+    Ok(())
 }
 
 // Fills the working row of a group along the operand: the instants of each group in one stretch.
@@ -122,7 +120,7 @@ fn fill_along(
     pool: &mut [i32],
     a: Operand,
     b: Operand,
-) -> Filled
+) -> Result<(), Refusal>
     requires fillable { Fillable (Group x) (row_in pool.old a) (row_in pool.old b) }
     requires placed { Placed (Group x) a b span at period pool.old }
     ensures { Fills (over (Group x) pool.old a b) at period pool.old pool.new result }
@@ -136,7 +134,7 @@ fn fill_along(
         let j = cursors::label_of(&pool[start..end], a_period, a_distance, reached.cursor);
         let group = group_of(x, j);
         if !Calendar::in_range(group.number) {
-            return Filled::OutOfRange;
+            return Err(Refusal::LabelOutsideLimits);
         }
         reached = fill_stretch(
             group.number as i32,
@@ -151,7 +149,7 @@ fn fill_along(
             a_distance,
         );
     }
-    Filled::Labelled
+    Ok(())
 }
 
 // Fills the working row of a group. In a row of one cell every instant of a stretch has a label, so that the cells of a group are all alike.
@@ -163,7 +161,7 @@ pub fn fill_group(
     pool: &mut [i32],
     a: Operand,
     b: Operand,
-) -> Filled
+) -> Result<(), Refusal>
     requires fillable { Fillable (Group x) (row_in pool.old a) (row_in pool.old b) }
     requires placed { Placed (Group x) a b span at period pool.old }
     ensures { Fills (over (Group x) pool.old a b) at period pool.old pool.new result }

@@ -9,8 +9,8 @@ ghost use Rattle.kinds.specs.Stands.{row_in};
 ghost use Rattle.fill_shared.specs.Fillable.{Fillable};
 ghost use Rattle.fill_shared.specs.Placed.{Placed, over, Fills};
 
-use calendar::Calendar;
-use fill_shared::{Filled, end_of, last_before};
+use calendar::{Calendar, Refusal};
+use fill_shared::{end_of, last_before};
 use kinds::Operand;
 
 // How many labels there are above `last`, which is the last before the instant 0, and below x, which is at most a turn above it. The row's
@@ -23,9 +23,8 @@ fn labels_below(x: i64, last: i64, a_cells: &[i32], a_period: i64, a_distance: i
 {
     let mut label = last;
     let mut labels: usize = 0;
-    let mut i = 0;
-    while i < a_cells.len() {
-        let z = a_cells[i] as i64;
+    for cell in a_cells {
+        let z = *cell as i64;
         if z >= x {
             return labels as i64;
         }
@@ -33,7 +32,6 @@ fn labels_below(x: i64, last: i64, a_cells: &[i32], a_period: i64, a_distance: i
             label = z;
             labels += 1;
         }
-        i += 1;
     }
     labels as i64
 }
@@ -62,7 +60,7 @@ pub fn fill_renumber(
     pool: &mut [i32],
     a: Operand,
     b: Operand,
-) -> Filled
+) -> Result<(), Refusal>
     requires fillable { Fillable (Renumber x) (row_in pool.old a) (row_in pool.old b) }
     requires placed { Placed (Renumber x) a b span at period pool.old }
     ensures { Fills (over (Renumber x) pool.old a b) at period pool.old pool.new result }
@@ -73,8 +71,7 @@ pub fn fill_renumber(
     let a_distance = a.distance;
     let mut last = last_before(&pool[start..end], a_period, a_distance);
     let mut number = number_of(x, last, &pool[start..end], a_period, a_distance);
-    let mut t = 0;
-    while t < period {
+    for t in 0..period {
         let cell = pool[start + t];
         let mut label = Calendar::EMPTY;
         if cell != Calendar::EMPTY {
@@ -84,12 +81,11 @@ pub fn fill_renumber(
                 number += 1;
             }
             if !Calendar::in_range(number) {
-                return Filled::OutOfRange;
+                return Err(Refusal::LabelOutsideLimits);
             }
             label = number as i32;
         }
         pool[at + t] = label;
-        t += 1;
     }
-    Filled::Labelled
+    Ok(())
 }

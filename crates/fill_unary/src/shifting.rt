@@ -5,7 +5,7 @@ ghost use Rattle.kinds.specs.Stands.{row_in};
 ghost use Rattle.fill_shared.specs.Fillable.{Fillable};
 ghost use Rattle.fill_shared.specs.Placed.{Placed, over, Fills};
 
-use fill_shared::Filled;
+use calendar::Refusal;
 use kinds::Operand;
 use pieces::{is_outside, raised};
 
@@ -18,7 +18,7 @@ pub fn fill_shift(
     pool: &mut [i32],
     a: Operand,
     b: Operand,
-) -> Filled
+) -> Result<(), Refusal>
     requires fillable { Fillable (Shift x) (row_in pool.old a) (row_in pool.old b) }
     requires placed { Placed (Shift x) a b span at period pool.old }
     ensures { Fills (over (Shift x) pool.old a b) at period pool.old pool.new result }
@@ -26,18 +26,16 @@ pub fn fill_shift(
     let start = a.start;
     let by = x as i32;
     let mut outside: usize = 0;
-    let mut t = 0;
-    while t < period {
+    for t in 0..period {
         let cell = raised(pool[start + t], by);
         pool[at + t] = cell;
         if is_outside(cell) {
             outside += 1;
         }
-        t += 1;
     }
     if outside > 0 {
-        Filled::OutOfRange
+        Err(Refusal::LabelOutsideLimits)
     } else {
-        Filled::Labelled
+        Ok(())
     }
 }

@@ -12,8 +12,6 @@ ghost use Rattle.calendar.specs.Questions.{given};
 ghost use Rattle.cursors.specs.Found.{Sound, Labelled};
 ghost use Rattle.granule_ends.specs.Ends.{end_of};
 
-use cursors::Found;
-
 // The end of the granule of t in a direction, back to its first instant or on to its last: from t, past instants with no label, until another label
 // shows.
 fn end_instant(back: bool, cells: &[i32], period: i64, distance: i64, t: i64) -> i64
@@ -23,7 +21,7 @@ fn end_instant(back: bool, cells: &[i32], period: i64, distance: i64, t: i64) ->
 {
     let mut c = cursors::cursor_at(cells, period, distance, t);
     let own = cursors::cursor_label(cells, period, distance, c);
-    let Found::At(j) = own else {
+    let Some(j) = own else {
         return t;
     };
     let mut at = t;
@@ -33,13 +31,13 @@ fn end_instant(back: bool, cells: &[i32], period: i64, distance: i64, t: i64) ->
         at = cursors::step(back, at);
         let label = cursors::cursor_label(cells, period, distance, c);
         match label {
-            Found::At(k) => {
+            Some(k) => {
                 if k != j {
                     return end;
                 }
                 end = at;
             }
-            Found::Nothing => {}
+            None => {}
         }
     }
 }
@@ -70,7 +68,7 @@ pub fn place(cells: &[i32], period: i64, distance: i64, t: i64) -> u64
 {
     let mut c = cursors::cursor_at(cells, period, distance, t);
     let own = cursors::cursor_label(cells, period, distance, c);
-    let Found::At(j) = own else {
+    let Some(j) = own else {
         return 0;
     };
     let mut at = t;
@@ -80,13 +78,13 @@ pub fn place(cells: &[i32], period: i64, distance: i64, t: i64) -> u64
         at -= 1;
         let label = cursors::cursor_label(cells, period, distance, c);
         match label {
-            Found::At(k) => {
+            Some(k) => {
                 if k != j {
                     return count;
                 }
                 count += 1;
             }
-            Found::Nothing => {}
+            None => {}
         }
     }
 }

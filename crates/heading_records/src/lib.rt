@@ -79,10 +79,8 @@ pub fn read_all(headings: &[Heading]) -> Read
     ensures { ReadsAll headings.now result }
 {
     let mut read = none_read();
-    let mut i: usize = 0;
-    while i < headings.len() {
-        read = read_next(read, i, headings[i]);
-        i += 1;
+    for (i, h) in headings.iter().enumerate() {
+        read = read_next(read, i, *h);
     }
     read
 }

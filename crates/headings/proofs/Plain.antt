@@ -25,9 +25,9 @@ use Rattle.algebra.proofs.Demand2.{demand-2-only, represents-length}
 use Rattle.algebra.proofs.Steps.{after_table, outcome-is}
 use Rattle.laws.proofs.Answered.{stored-means}
 use Rattle.row_entry.proofs.Cells.{drop-alike, start-suc, number-suc}
+use Rattle.conversion.specs.Conversion.{Conversion}
 use Rattle.conversion.specs.Answers.{answered}
 use Rattle.conversion.specs.Left.{Left}
-use Rattle.conversion.specs.declared.Conversion.{Conversion}
 use Rattle.conversion.proofs.Headings.{filled-behind, headings-length}
 use Rattle.conversion.proofs.LeftRows.{means-length}
 use Rattle.hand_proofs.specs.Tabled.{tabled}

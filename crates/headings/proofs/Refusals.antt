@@ -6,11 +6,10 @@ use mathlib.Core.Logic.{◌↔◌}
 use mathlib.Core.List.{List}
 use Prim.Native.Nat.{ℕ, ◌*◌}
 use lib.IntN.{ℤ}
+use Rattle.conversion.specs.Conversion.{Conversion, Refused}
 use Rattle.calendar.specs.Limits.{heading_length}
 use Rattle.calendar.specs.Operation.{SetOperation}
 use Rattle.laws.specs.Commutes.{Commutes, Swapped}
-use Rattle.conversion.specs.declared.Conversion.{Conversion}
-use Rattle.conversion.specs.declared.Conversion.TheVariants.{Refused}
 use Rattle.conversion.proofs.Refusals as plain
 use Rattle.headings.specs.declared.Heading.{Heading}
 use Rattle.headings.specs.Records.{numbers_of}

@@ -8,10 +8,9 @@ use Rattle.calendar.specs.Lists.{filled}
 use Rattle.calendar.specs.Granules.{granules}
 use Rattle.algebra.specs.TableMeaning.{Meant, TableMeans}
 use Rattle.algebra.specs.TableMeaning.TableReply.{means}
+use Rattle.conversion.specs.Conversion.{Conversion, Converted}
 use Rattle.conversion.specs.Answers.{answered}
 use Rattle.conversion.specs.Shows.{start_at, period_at, distance_at, granules_at}
-use Rattle.conversion.specs.declared.Conversion.{Conversion}
-use Rattle.conversion.specs.declared.Conversion.TheVariants.{Converted}
 use Rattle.hand_proofs.specs.Tabled.{tabled}
 use Rattle.headings.specs.Records.{no_heading, row_at}
 use Rattle.headings.specs.declared.Heading.{Heading}

@@ -10,7 +10,7 @@ ghost use Rattle.conversion.specs.Answers.{answered};
 ghost use Rattle.headings.specs.LeftRecords.{record_at, records_of, LeftRecords};
 
 use calendar::ENTRY_LIMIT;
-use conversion::{Conversion, HEADING_LENGTH};
+use conversion::{ConversionError, HEADING_LENGTH};
 
 // The heading of an entry: where its row starts in the pool, its period and distance, and its granules per period.
 #[derive(Clone, Copy)]
@@ -24,7 +24,7 @@ pub struct Heading {
 // A conversion by value: its answer, and four numbers for each entry that a table may have.
 #[derive(Clone, Copy)]
 struct Made {
-    answer: Conversion,
+    answer: Result<(), ConversionError>,
     plain: [u32; HEADING_LENGTH * ENTRY_LIMIT],
 }
 
@@ -45,16 +45,16 @@ fn convert_made(table: &[i32], lent: usize, pool: &mut [i32]) -> Made
 }
 
 // The i-th heading; those past the numbers are zero.
-fn heading_at(m: Made, i: usize) -> Heading
-    ensures { result ≡ record_at m.plain i }
+fn heading_at(numbers: &[u32; HEADING_LENGTH * ENTRY_LIMIT], i: usize) -> Heading
+    ensures { result ≡ record_at numbers.now i }
 {
     if i < ENTRY_LIMIT {
         let at = HEADING_LENGTH * i;
         Heading {
-            start: m.plain[at],
-            period: m.plain[at + 1],
-            distance: m.plain[at + 2],
-            granules: m.plain[at + 3],
+            start: numbers[at],
+            period: numbers[at + 1],
+            distance: numbers[at + 2],
+            granules: numbers[at + 3],
         }
     } else {
         Heading {
@@ -66,24 +66,26 @@ fn heading_at(m: Made, i: usize) -> Heading
     }
 }
 
-// Writes every heading.
-fn write_all(headings: &mut [Heading], m: Made)
-    ensures { headings.new ≡ records_of m.plain (length headings.old) }
+// Writes every heading by its numbers.
+pub fn write_all(headings: &mut [Heading], numbers: &[u32; HEADING_LENGTH * ENTRY_LIMIT])
+    ensures { headings.new ≡ records_of numbers.now (length headings.old) }
 {
-    let mut i: usize = 0;
-    while i < headings.len() {
-        headings[i] = heading_at(m, i);
-        i += 1;
+    for (i, h) in headings.iter_mut().enumerate() {
+        *h = heading_at(numbers, i);
     }
 }
 
 // Converts a table. Answered, the pool holds the least row of each entry and the headings say where; after a refusal every cell is empty and every
 // heading is zero. Refuses 1, 2 and 3 for the lists, with entry 0, and 4 to 12 for the first entry that calls for it. Costs time in proportion to span and working period of each
 // entry, and to its row for each divisor that is tried; no memory.
-pub fn convert(table: &[i32], headings: &mut [Heading], pool: &mut [i32]) -> Conversion
+pub fn convert(
+    table: &[i32],
+    headings: &mut [Heading],
+    pool: &mut [i32],
+) -> Result<(), ConversionError>
     ensures { LeftRecords table.now (length headings.old) (length pool.old) result headings.new pool.new }
 {
     let m = convert_made(table, headings.len(), pool);
-    write_all(headings, m);
+    write_all(headings, &m.plain);
     m.answer
 }

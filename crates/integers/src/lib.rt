@@ -50,34 +50,23 @@ pub fn gcd(a: u64, b: u64) -> u64
     x
 }
 
-// A number that is at most a cap, or the word that it is past it.
-#[derive(Clone, Copy)]
-pub enum Capped {
-    Within(u64),
-    TooLong,
-}
-
 // a * b, which is tested by a division and never wraps.
-pub fn capped_mul(a: u64, b: u64, cap: u64) -> Capped
+pub fn capped_mul(a: u64, b: u64, cap: u64) -> Option<u64>
     ensures { result ≡ capped_at cap (a * b) }
 {
     if a == 0 {
-        return Capped::Within(0);
+        return Some(0);
     }
-    if b <= cap / a {
-        Capped::Within(a * b)
-    } else {
-        Capped::TooLong
-    }
+    if b <= cap / a { Some(a * b) } else { None }
 }
 
 // The least common multiple of a and b, and 0 where one of them is 0.
-pub fn capped_lcm(a: u64, b: u64, cap: u64) -> Capped
+pub fn capped_lcm(a: u64, b: u64, cap: u64) -> Option<u64>
     ensures { result ≡ capped_at cap (G.lcm a b) }
 {
     let g = gcd(a, b);
     if g == 0 {
-        return Capped::Within(0);
+        return Some(0);
     }
     capped_mul(a / g, b, cap)
 }

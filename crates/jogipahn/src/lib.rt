@@ -32,14 +32,10 @@
 // A caller's code names `jogipahn` alone. Its line in crates.txt names beside `jogipahn` each crate that declares a
 // type whose values the caller makes or takes apart, since a proof cites a type where it is declared:
 //     calendar     Calendar, Refusal                  headings     Heading
-//     conversion   Conversion                         least_form   Shortest
-//     floats       Allowance, Figures                 questions    Placing, Up, Parted, Figured, Shortening, Late
-//     dates        Date, Dated, Instant               reader       Reader
-//     open_map     OpenNumber, OpenInstant            row_maps     Made
-//     open_steps   OpenStep                           sheet_text   Written
-//     journal      Opened, Recorded, Found
-//     steps        Walk, Progress, Lengths
-//     verdicts     Verdict
+//     conversion   ConversionError                    least_form   Shortest
+//     floats       Allowance, Figures                 dates        Date
+//     reader       Reader                             journal      RecordError
+//     steps        Walk, Progress, Lengths            verdicts     Verdict
 // A value that is only handed on, as a refusal within an answer, needs none. `crates/caller` is such a program.
 
 #![tactic(auto)]
@@ -87,8 +83,8 @@ pub use headings::convert;
 // Where an entry's row starts in the pool, its period, its distance and its slots per period.
 pub use headings::Heading;
 
-// What converting comes to: Converted, or Refused(number, entry).
-pub use conversion::Conversion;
+// Why a table is refused: the refusal's number, and the entry.
+pub use conversion::ConversionError;
 
 // The same with four plain numbers for each heading.
 pub use conversion::convert as convert_plain;
@@ -117,24 +113,23 @@ pub use verdicts::Verdict;
 pub use heading_records::check as check_records;
 
 // sheet(text, out): a table's text, a line for each entry, to its sheet, a line for each row or one for a refusal (19 for a
-// text that breaks the rules), in a lent list with zeros behind it. Bytes(n) says how long the sheet is; TooShort, that
-// the list, then all zero, does not hold it. SHEET_LIMIT bytes hold any.
-pub use sheet_text::{SHEET_LIMIT, Written, sheet};
+// text that breaks the rules), in a lent list with zeros behind it. Some(n) says how long the sheet is; None, that the
+// list, then all zero, does not hold it. SHEET_LIMIT bytes hold any.
+pub use sheet_text::{SHEET_LIMIT, sheet};
 
 // A journal keeps tables in a file, one appended after another: records of a table's text and a trailer of six bytes
 // that points back to it. Whatever reaches the file of an append that is cut, opening finds the last table that is
 // whole.
 //     open_journal(book)            where the last table's text starts in these bytes and how many it has:
-//                                   Body(start, n); or Empty
-//     journal_record(text, out)     what appending a text writes, in a lent list with zeros behind it: Bytes(n);
-//                                   Refused(line) for a text that is refused with 19, and TooShort, leave the list all
+//                                   Some((start, n)), or None
+//     journal_record(text, out)     what appending a text writes, in a lent list with zeros behind it: Ok(n). An error,
+//                                   Refused(line) for a text that is refused with 19 or TooShort, leaves the list all
 //                                   zero. RECORD_LIMIT bytes are never too short
 //     last_trailer(window, base)    the same search in a part of a file that starts `base` bytes behind its start: the
 //                                   trailer's place in the window and its body's length. Parts are read from the
 //                                   file's end, and each shares five bytes with the next
 pub use journal::{
-    Found, Opened, RECORD_LIMIT, Recorded, last_trailer, open as open_journal,
-    record as journal_record,
+    RECORD_LIMIT, RecordError, last_trailer, open as open_journal, record as journal_record,
 };
 
 // A row with its period and distance. Its questions refuse 13 for a row that is not sound, and pass over the row once
@@ -158,8 +153,6 @@ pub use reader::Reader;
 // Answers, and how late a delivery may be.
 pub use floats::{Allowance, Figures};
 pub use least_form::Shortest;
-pub use questions::down::Parted;
-pub use questions::{Figured, Late, Placing, Shortening, Up};
 
 // The questions with plain parameters (what is asked, then each row's cells, period and distance), for callers that
 // hold no reader.
@@ -184,7 +177,7 @@ pub use batches::slots::up_granules;
 //                                     headings and 332,046 cells
 //     date_of(t)                      the date of an instant, its year by the civil number; refuses 14
 //     instant_of(year, month, day)    the instant of a date; refuses 20, then 14
-pub use dates::{Date, Dated, Instant, date_of, instant_of};
+pub use dates::{Date, date_of, instant_of};
 
 // The civil calendar's table, of the crate of that name.
 pub fn civil_table() -> [i32; 66]
@@ -207,8 +200,6 @@ pub fn civil_table() -> [i32; 66]
 //     between_open(words, period, x, y)               how many open instants t there are with x < t <= y, and minus that
 //                                                     for the pair the other way round
 // Making one passes over the row twice. A question passes over the words, not the cells: three times at the most.
-pub use open_map::{
-    OpenInstant, OpenNumber, count as count_open, last as last_open, next as next_open,
-};
-pub use open_steps::{OpenStep, between as between_open, nth as nth_open};
-pub use row_maps::{Made, make as make_open_map};
+pub use open_map::{count as count_open, last as last_open, next as next_open};
+pub use open_steps::{between as between_open, nth as nth_open};
+pub use row_maps::make as make_open_map;

@@ -1,5 +1,6 @@
 -- Opening a file by windows from its end: a window that holds the file's bytes from `base` on finds what the whole file
 -- has there.
+use Rattle.std.specs.Prelude.{Some, None, Option}
 use mathlib.Core.Path.{◌≡◌, refl, sym, ap, ◌∙◌}
 use mathlib.Core.Logic.{⊎_elim}
 use mathlib.Core.List.{List}
@@ -16,10 +17,6 @@ use Rattle.journal.specs.Window.{points_in, last_in}
 use Rattle.journal.specs.Opens.{body_of}
 use Rattle.journal.specs.Answers.{placed, opened_in, overlap, stepped, step_in, ByWindows}
 use Rattle.journal.specs.Answers.ByWindows.{body as by-body, before as by_before, empty as by-empty}
-use Rattle.journal.specs.declared.search.Found.{Found}
-use Rattle.journal.specs.declared.search.Found.TheVariants.{At, Nothing}
-use Rattle.journal.specs.declared.opened.Opened.{Opened}
-use Rattle.journal.specs.declared.opened.Opened.TheVariants.{Body, Empty}
 use Rattle.journal.specs.declared.opened.Step.{Step}
 use Rattle.journal.specs.declared.opened.Step.TheVariants.{Body as StepBody, Before, Empty as StepEmpty}
 use Rattle.journal.proofs.Trailers.{last_none, last-here, last_on, last_found, points-stand, points-false}
@@ -40,7 +37,7 @@ last_end w base =
     ∙ cut-places w base (length w - overlap) (length w - (length w - overlap)) (omega arith)
 
 -- what is found before q in the whole file
-abbrev pub found_before : List ℕ → ℕ → Opened
+abbrev pub found_before : List ℕ → ℕ → Option (ℕ × ℕ)
 found_before book q = placed (last_in book 0 q)
 
 module _ (book : List ℕ) (base m : ℕ) (in-file : base + m ≤ length book) where
@@ -72,12 +69,12 @@ module _ (book : List ℕ) (base m : ℕ) (in-file : base + m ≤ length book) w
     same_points = points-there ∙ sym (whole-points book (base + p))
 
   -- what the window's search says of the file: the body, or that the search goes on before the window
-  abbrev said : Found → Opened
-  said (At p n) = Body (base + p - n) n
-  said Nothing = found_before book base
+  abbrev said : Option (ℕ × ℕ) → Option (ℕ × ℕ)
+  said (Some (p, n)) = Some (base + p - n, n)
+  said None = found_before book base
 
-  here : (p : ℕ) → p + 5 < m → placed (At (base + p) (length_at book (base + p))) ≡ said (At p (length_at window p))
-  here p h = ap (λ (n : ℕ). Body (base + p - n) n) (sym (same_length p h))
+  here : (p : ℕ) → p + 5 < m → placed (Some (base + p, (length_at book (base + p)))) ≡ said (Some (p, length_at window p))
+  here p h = ap (λ (n : ℕ). Some (base + p - n, n)) (sym (same_length p h))
 
   inside : (q : ℕ) → q + 5 ≤ m → found_before book (base + q) ≡ said (last_in window base q)
   inside zero h = ap (found_before book) (add-zero base) ∙ ap said (sym (last_none window base))
@@ -110,16 +107,16 @@ module _ (book : List ℕ) (base m : ℕ) (in-file : base + m ≤ length book) w
       ends = last_end window base ∙ ap (λ (k : ℕ). last_in window base (k - overlap)) length-window
 
 -- what a step says of the whole file
-abbrev pub said_by : List ℕ → Step → Opened
-said_by book (StepBody start n) = Body start n
+abbrev pub said_by : List ℕ → Step → Option (ℕ × ℕ)
+said_by book (StepBody start n) = Some (start, n)
 said_by book (Before end) = found_before book (end - overlap)
-said_by book StepEmpty = Empty
+said_by book StepEmpty = None
 
-stepped-says : (book : List ℕ) (base m : ℕ) (h : base + m ≤ length book) (f : Found)
+stepped-says : (book : List ℕ) (base m : ℕ) (h : base + m ≤ length book) (f : Option (ℕ × ℕ))
     → said book base m h f ≡ said_by book (stepped base f)
-stepped-says book base m h (At p n) = refl
-stepped-says book zero m h Nothing = ap placed (last_none book 0)
-stepped-says book (suc b) m h Nothing =
+stepped-says book base m h (Some (p, n)) = refl
+stepped-says book zero m h None = ap placed (last_none book 0)
+stepped-says book (suc b) m h None =
     ap (found_before book) (let e : suc b ≡ suc b + overlap - overlap = omega arith in e)
 
 pub step-says : (book : List ℕ) (base m : ℕ) → base + m ≤ length book
@@ -129,26 +126,26 @@ step-says book base m h =
     window-says book base m h ∙ stepped-says book base m h (last_in (take m (drop base book)) base (length (take m (drop base book))))
 
 -- the next window ends behind the start of this one
-step_end : (base : ℕ) (f : Found) {end : ℕ} → stepped base f ≡ Before end → (0 < base) × (end ≡ base + overlap)
-step_end base (At p n) e = let z : ◌≡◌ {A = ℕ} 0 1 = cc in absurd (omega arith)
-step_end zero Nothing e = let z : ◌≡◌ {A = ℕ} 0 1 = cc in absurd (omega arith)
-step_end (suc b) Nothing e = (omega arith, cc)
+step_end : (base : ℕ) (f : Option (ℕ × ℕ)) {end : ℕ} → stepped base f ≡ Before end → (0 < base) × (end ≡ base + overlap)
+step_end base (Some (p, n)) e = let z : ◌≡◌ {A = ℕ} 0 1 = cc in absurd (omega arith)
+step_end zero None e = let z : ◌≡◌ {A = ℕ} 0 1 = cc in absurd (omega arith)
+step_end (suc b) None e = (omega arith, cc)
 
 pub step-before : (window : List ℕ) (base : ℕ) {end : ℕ} → step_in window base ≡ Before end → (0 < base) × (end ≡ base + overlap)
 unfolding step_in
 step-before window base e = step_end base (last_in window base (length window)) e
 
 -- a body that is found has 1 to 4,096 bytes, and its trailer ends in the window
-step-found : (window : List ℕ) (base : ℕ) (f : Found) → last_in window base (length window) ≡ f → {start n : ℕ}
+step-found : (window : List ℕ) (base : ℕ) (f : Option (ℕ × ℕ)) → last_in window base (length window) ≡ f → {start n : ℕ}
     → stepped base f ≡ StepBody start n → (1 ≤ n) × (n ≤ 4096) × (start + n + 6 ≤ base + length window)
-step-found window base (At p k) q {start} {n} e =
+step-found window base (Some (p, k)) q {start} {n} e =
     let place : base + p - k ≡ start = cc in
     let says : k ≡ n = cc in
     let f = last_found window base (length window) q in
     let stand = points-stand window base p f.0 in
     (omega (arith, f.0.positive, f.1), omega (arith, f.0.short, f.1), omega (arith, f.0.within, f.1))
-step-found window zero Nothing q e = let z : ◌≡◌ {A = ℕ} 0 1 = cc in absurd (omega arith)
-step-found window (suc b) Nothing q e = let z : ◌≡◌ {A = ℕ} 0 1 = cc in absurd (omega arith)
+step-found window zero None q e = let z : ◌≡◌ {A = ℕ} 0 1 = cc in absurd (omega arith)
+step-found window (suc b) None q e = let z : ◌≡◌ {A = ℕ} 0 1 = cc in absurd (omega arith)
 
 pub step-body : (window : List ℕ) (base : ℕ) {start n : ℕ} → step_in window base ≡ StepBody start n
     → (1 ≤ n) × (n ≤ 4096) × (start + n + 6 ≤ base + length window)
@@ -162,7 +159,7 @@ step-no-further window base e h = omega (arith, step-body window base e)
 
 -- ---- opening by windows, whatever their lengths, finds what opening the whole file finds
 
-windows-before : (book : List ℕ) {end : ℕ} {r : Opened} → ByWindows book end r → end ≤ length book
+windows-before : (book : List ℕ) {end : ℕ} {r : Option (ℕ × ℕ)} → ByWindows book end r → end ≤ length book
     → r ≡ found_before book (end - overlap)
 windows-before book (by-body base m {start = s} {n = n} l e) h =
     sym (ap (found_before book) (let q : base + m - overlap ≡ base + (m - overlap) = omega arith in q)
@@ -179,9 +176,9 @@ windows-before book (by-empty m e) h =
     ∙ step-says book 0 m (omega arith)
     ∙ ap (said_by book) e)
 
-pub windows-open : (book : List ℕ) {r : Opened} → ByWindows book (length book) r → r ≡ opened_in book
+pub windows-open : (book : List ℕ) {r : Option (ℕ × ℕ)} → ByWindows book (length book) r → r ≡ opened_in book
 unfolding opened_in
 windows-open book w = windows-before book w (omega arith) ∙ ap placed (sym (last_end book 0))
 
-pub windows-find : (book : List ℕ) {r : Opened} → ByWindows book (length book) r → body_of book r ≡ opened book
+pub windows-find : (book : List ℕ) {r : Option (ℕ × ℕ)} → ByWindows book (length book) r → body_of book r ≡ opened book
 windows-find book w = ap (body_of book) (windows-open book w) ∙ open-finds book

@@ -1,15 +1,15 @@
 -- What an append writes, in a lent list.
-use Rattle.std.specs.Prelude.{◌≡◌, cond, List, [], ℕ, leb, length}
+use Rattle.std.specs.Prelude.{◌≡◌, cond, List, [], ℕ, leb, length, Result, Ok, Err}
 use Rattle.calendar.specs.Lists.{filled}
 use Rattle.journal.specs.Append.{Append, Appends}
 use Rattle.journal.specs.Append.Append.{refused_at, writes}
-use Rattle.journal.specs.declared.records.Recorded.{Recorded}
-use Rattle.journal.specs.declared.records.Recorded.TheVariants.{Bytes, Refused, TooShort}
+use Rattle.journal.specs.declared.records.RecordError.{RecordError}
+use Rattle.journal.specs.declared.records.RecordError.TheVariants.{Refused, TooShort}
 
--- the line of a refusal, or how many of m bytes are taken
-abbrev pub recorded_in : ℕ → Append → Recorded
-recorded_in m (refused_at n k) = Refused k
-recorded_in m (writes w) = cond (leb (length w) m) (Bytes (length w)) TooShort
+-- how many of m bytes are taken, or the line of a refusal
+abbrev pub recorded_in : ℕ → Append → Result ℕ RecordError
+recorded_in m (refused_at n k) = Err (Refused k)
+recorded_in m (writes w) = cond (leb (length w) m) (Ok (length w)) (Err TooShort)
 
 -- what is written; nothing after a refusal, and where the list is too short
 abbrev pub bytes_in : ℕ → Append → List ℕ
@@ -17,7 +17,7 @@ bytes_in m (refused_at n k) = []
 bytes_in m (writes w) = cond (leb (length w) m) w []
 
 -- the answer for s and the list of m bytes show what appending s comes to, with zeros behind it
-pub record RecordShows (s : List ℕ) (m : ℕ) (r : Recorded) (out : List ℕ) : Type 0 where
+pub record RecordShows (s : List ℕ) (m : ℕ) (r : Result ℕ RecordError) (out : List ℕ) : Type 0 where
   pub append : Append
   pub appends : Appends s append
   pub answer : r ≡ recorded_in m append

@@ -6,6 +6,6 @@ mod opened;
 mod records;
 mod search;
 
-pub use opened::{Opened, Step, open, step_back};
-pub use records::{RECORD_LIMIT, Recorded, TRAILER_LENGTH, record};
-pub use search::{Found, last_trailer};
+pub use opened::{Step, open, step_back};
+pub use records::{RECORD_LIMIT, RecordError, TRAILER_LENGTH, record};
+pub use search::last_trailer;

@@ -3,17 +3,10 @@
 ghost use Rattle.std.specs.Prelude.{◌≡◌, ◌+◌, ◌<◌, ◌^◌, length};
 ghost use Rattle.journal.specs.Answers.{opened_in, step_in};
 
-use crate::search::{Found, last_trailer};
+use crate::search::last_trailer;
 
 // How many bytes a window shares with the next one before it.
 const OVERLAP: usize = 5;
-
-// Where the last table's text starts and how many bytes it has, or that there is none.
-#[derive(Clone, Copy)]
-pub enum Opened {
-    Body(usize, usize),
-    Empty,
-}
 
 // What a window says of the file: where the last table's text starts and how many bytes it has, where the next window
 // ends, or that there is none.
@@ -24,15 +17,12 @@ pub enum Step {
     Empty,
 }
 
-// Opens the journal in these bytes.
-pub fn open(book: &[u8]) -> Opened
+// Opens the journal in these bytes: where the last table's text starts and how many bytes it has.
+pub fn open(book: &[u8]) -> Option<(usize, usize)>
     ensures { result ≡ opened_in book.now }
 {
-    let found = last_trailer(book, 0);
-    match found {
-        Found::At(p, n) => Opened::Body(p - n, n),
-        Found::Nothing => Opened::Empty,
-    }
+    let (p, n) = last_trailer(book, 0)?;
+    Some((p - n, n))
 }
 
 // Looks through a window that starts `base` bytes behind the file's start. The first window ends with the file.
@@ -42,8 +32,8 @@ pub fn step_back(window: &[u8], base: usize) -> Step
 {
     let found = last_trailer(window, base);
     match found {
-        Found::At(p, n) => Step::Body(base + p - n, n),
-        Found::Nothing => {
+        Some((p, n)) => Step::Body(base + p - n, n),
+        None => {
             if base == 0 {
                 return Step::Empty;
             }

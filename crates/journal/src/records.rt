@@ -5,9 +5,10 @@ ghost use Rattle.calendar.specs.Lists.{filled};
 ghost use Rattle.table_text.specs.Parse.{parse};
 ghost use Rattle.table_text.specs.Tables.{reading_answer};
 ghost use Rattle.journal.specs.Journal as Journal;
-ghost use Rattle.journal.specs.Writing.{RecordLeft};
+ghost use Rattle.journal.specs.Lent.{recorded_in};
+ghost use Rattle.journal.specs.Writing.{append_of, RecordLeft};
 
-use table_text::{Reading, TABLE_LENGTH};
+use table_text::TABLE_LENGTH;
 
 // How many bytes a trailer has.
 pub const TRAILER_LENGTH: usize = 6;
@@ -15,11 +16,9 @@ pub const TRAILER_LENGTH: usize = 6;
 // Enough for any record: a text of 4,096 bytes and its trailer.
 pub const RECORD_LIMIT: usize = 4102;
 
-// What an append writes: how many bytes of the lent list; or the line for which the text is refused with 19; or that
-// the list is too short.
-#[derive(Clone, Copy)]
-pub enum Recorded {
-    Bytes(usize),
+// Why an append writes nothing: the line for which the text is refused with 19, or that the lent list is too short.
+#[derive(Clone, Copy, PartialEq, Eq)]
+pub enum RecordError {
     Refused(u32),
     TooShort,
 }
@@ -59,10 +58,8 @@ fn lay(text: &[u8], out: &mut [u8])
     requires { length (Journal.record_of text.now) ≤ length out.old }
     ensures { out.new ≡ filled (length out.old) 0 (Journal.record_of text.now) }
 {
-    let mut i = 0;
-    while i < out.len() {
-        out[i] = byte_at(text, i);
-        i += 1;
+    for (i, b) in out.iter_mut().enumerate() {
+        *b = byte_at(text, i);
     }
 }
 
@@ -70,47 +67,43 @@ fn lay(text: &[u8], out: &mut [u8])
 fn clear(out: &mut [u8])
     ensures { out.new ≡ filled (length out.old) 0 [] }
 {
-    let mut i = 0;
-    while i < out.len() {
-        out[i] = 0;
-        i += 1;
-    }
+    out.fill(0);
 }
 
 // Whether a text keeps to the rules, or its first bad line.
-fn read(text: &[u8]) -> Reading
+fn read(text: &[u8]) -> Result<usize, u32>
     ensures { result ≡ reading_answer (parse text.now) }
 {
     let mut table = [0i32; TABLE_LENGTH];
     table_text::read_table(text, &mut table)
 }
 
-// Lays what appending a text writes into a list, with zeros behind it. After a refusal, and where the list is too short,
-// it is left all zero; one of RECORD_LIMIT bytes never is too short.
-pub fn record(text: &[u8], out: &mut [u8]) -> Recorded
-    ensures { RecordLeft text.now (length out.old) result out.new }
+// How many bytes appending a text writes, into a list of `room` bytes.
+fn recorded(text: &[u8], room: usize) -> Result<usize, RecordError>
+    ensures { result ≡ recorded_in room (append_of text.now) }
 {
     if text.len() == 0 {
-        clear(&mut *out);
-        return Recorded::Refused(0);
+        return Err(RecordError::Refused(0));
     }
-    let reading = read(text);
-    match reading {
-        Reading::Bad(line) => {
-            clear(&mut *out);
-            Recorded::Refused(line)
-        }
-        Reading::Table(_) => {
-            if out.len() < TRAILER_LENGTH {
-                clear(&mut *out);
-                return Recorded::TooShort;
-            }
-            if out.len() - TRAILER_LENGTH < text.len() {
-                clear(&mut *out);
-                return Recorded::TooShort;
-            }
-            lay(text, &mut *out);
-            Recorded::Bytes(text.len() + TRAILER_LENGTH)
-        }
+    if let Err(line) = read(text) {
+        return Err(RecordError::Refused(line));
     }
+    let n = text.len() + TRAILER_LENGTH;
+    if room < n {
+        return Err(RecordError::TooShort);
+    }
+    Ok(n)
+}
+
+// Lays what appending a text writes into a list, with zeros behind it, and answers how many bytes that is. Where nothing
+// is written, the list is left all zero; one of RECORD_LIMIT bytes never is too short.
+pub fn record(text: &[u8], out: &mut [u8]) -> Result<usize, RecordError>
+    ensures { RecordLeft text.now (length out.old) result out.new }
+{
+    let written = recorded(text, out.len());
+    match written {
+        Ok(_) => lay(text, &mut *out),
+        Err(_) => clear(&mut *out),
+    }
+    written
 }

@@ -11,7 +11,7 @@ ghost use Rattle.journal.specs.Lent.{recorded_in, bytes_in};
 ghost use Rattle.journal.specs.Writing.{append_of};
 ghost use Rattle.journal_api.specs.Codes.{last_code, last_start, record_code};
 
-use journal::{Opened, Recorded};
+use journal::RecordError;
 
 // 100 times the refusal of a text.
 const TEXT_REFUSED: i64 = 1900;
@@ -30,11 +30,11 @@ pub fn last(book: &[u8], start: &mut usize) -> i64
 {
     let opened = journal::open(book);
     match opened {
-        Opened::Body(s, n) => {
+        Some((s, n)) => {
             *start = s;
             n as i64
         }
-        Opened::Empty => {
+        None => {
             *start = 0;
             0
         }
@@ -49,8 +49,8 @@ pub fn record(text: &[u8], out: &mut [u8]) -> i64
 {
     let recorded = journal::record(text, &mut *out);
     match recorded {
-        Recorded::Bytes(n) => n as i64,
-        Recorded::Refused(line) => refused_at(line),
-        Recorded::TooShort => -1,
+        Ok(n) => n as i64,
+        Err(RecordError::Refused(line)) => refused_at(line),
+        Err(RecordError::TooShort) => -1,
     }
 }

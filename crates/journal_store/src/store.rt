@@ -15,14 +15,10 @@ fn open_end<R: Files>(rt: &R, path: &str) -> io::Result<R::File> {
 fn folder_length(path: &[u8]) -> usize
     ensures { result ≤ length path.now }
 {
-    let mut n = path.len();
-    while 0 < n {
-        if path[n - 1] == b'/' {
-            return n;
-        }
-        n -= 1;
+    match path.iter().rposition(|&b| b == b'/') {
+        Some(i) => i + 1,
+        None => 0,
     }
-    0
 }
 
 // Opens the folder of a file.

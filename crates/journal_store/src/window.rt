@@ -1,88 +1,41 @@
 // The last table of a file, found by windows from its end.
 
-ghost use Rattle.std.specs.Prelude.{◌≡◌, ◌+◌, ◌-◌, ◌≤◌, ◌<◌, ◌^◌};
-ghost use Rattle.journal_store.specs.Seen.{window_length, Seen, Within};
+ghost use Rattle.std.specs.Prelude.{◌+◌, ◌≤◌, ◌<◌, ◌^◌, IfOk};
+ghost use Rattle.journal_store.specs.Seen.{Seen, Within};
 
 use crate::input::fill_at;
 use journal::Step;
+use std::io;
 use std::io::{Read, Seek};
 
-// How many bytes of the file are looked at together: a trailer and the last byte of its body, so that nothing before the body is read.
-const WINDOW: usize = 7;
-
-// What a look into a window comes to: where the last table's text starts and how many bytes it has, where the next
-// window ends, that there is none, or that the file could not be read.
-#[derive(Clone, Copy)]
-enum Sight {
-    Body(usize, usize),
-    Before(usize),
-    Empty,
-    Failed,
-}
-
-// Where the last table's text starts and how many bytes it has; that there is none; or that the file could not be read.
-#[derive(Clone, Copy)]
-pub(crate) enum Last {
-    Body(usize, usize),
-    Empty,
-    Failed,
-}
-
-// Where the window starts that ends at `end`.
-fn window_start(end: usize) -> usize
-    ensures { result ≡ end - window_length }
+// Looks through the n bytes from `base` on.
+fn look<const N: usize>(file: &mut (impl Read + Seek), base: usize, n: usize) -> io::Result<Step>
+    requires { (n ≤ N) × (N < 2 ^ 63) × (base + n < 2 ^ 63) }
+    ensures { IfOk result (Seen base n) }
 {
-    if WINDOW < end { end - WINDOW } else { 0 }
+    let mut window = [0u8; N];
+    let k = fill_at(file, base, &mut window, n)?;
+    Ok(journal::step_back(&window[..k], base))
 }
 
-// Looks through the n bytes from `base` on. Where they can't be read, that is told of the path.
-fn look(
-    rt: &(impl Eprint + Alloc),
-    path: &str,
-    file: &mut (impl Read + Seek),
-    base: usize,
-    n: usize,
-) -> Sight
-    requires { (n ≤ window_length) × (base + window_length < 2 ^ 63) }
-    ensures { Seen base result }
-{
-    let mut window = [0u8; WINDOW];
-    let k = match fill_at(file, base, &mut window, n) {
-        Ok(k) => k,
-        Err(error) => {
-            programs::tell_failure(rt, path, error);
-            return Sight::Failed;
-        }
-    };
-    let step = journal::step_back(&window[..k], base);
-    match step {
-        Step::Body(start, length) => Sight::Body(start, length),
-        Step::Before(end) => Sight::Before(end),
-        Step::Empty => Sight::Empty,
-    }
-}
-
-// Looks through the first `size` bytes of the file, from their end.
-pub(crate) fn search(
-    rt: &(impl Eprint + Alloc),
-    path: &str,
+// Looks through the first `size` bytes of the file, from their end, N of them together: where the last table's text
+// starts and how many bytes it has.
+pub(crate) fn search<const N: usize>(
     file: &mut (impl Read + Seek),
     size: usize,
-) -> Last
-    requires { size < 2 ^ 63 }
-    ensures { Within result }
+) -> io::Result<Option<(usize, usize)>>
+    requires { (size < 2 ^ 63) × (5 < N) × (N < 2 ^ 63) }
+    ensures { IfOk result Within }
 {
     let mut end = size;
     loop {
-        let base = window_start(end);
-        let seen = look(rt, path, file, base, end - base);
-        match seen {
-            Sight::Body(start, n) => return Last::Body(start, n),
-            Sight::Before(next) => {
+        let base = end.saturating_sub(N);
+        match look::<N>(&mut *file, base, end - base)? {
+            Step::Body(start, n) => return Ok(Some((start, n))),
+            Step::Before(next) => {
                 end = next;
             }
-            Sight::Empty => return Last::Empty,
-            Sight::Failed => return Last::Failed,
+            Step::Empty => return Ok(None),
         }
     }
 }

@@ -52,12 +52,10 @@ fn others_in(cells: &[i32], start: usize, end: usize, q: usize, rise: i32) -> u3
     ensures { (result ≡ 0) ↔ RepeatsFrom cells.now q rise start end }
 {
     let mut count: u32 = 0;
-    let mut t = start;
-    while t < end {
+    for t in start..end {
         if !is_repeated(cells, t, q, rise) {
             count += 1;
         }
-        t += 1;
     }
     count
 }
@@ -68,14 +66,12 @@ fn other_in(cells: &[i32], start: usize, end: usize, q: usize, rise: i32) -> usi
     requires rise { Rise rise × Low cells.now }
     ensures { FirstOther cells.now q rise start end result }
 {
-    let mut t = start;
-    while t < end {
+    for t in start..end {
         if !is_repeated(cells, t, q, rise) {
             return t;
         }
-        t += 1;
     }
-    t
+    end
 }
 
 // The end of the block that begins at `start`, of `len` cells in all.
@@ -147,8 +143,8 @@ fn try_period(cells: &[i32], q: usize, rise: i32, first: usize, second: usize) -
     if !is_regular(cells, q, rise, first) || !is_regular(cells, q, rise, second) {
         return Attempt {
             repeats: false,
-            first: first,
-            second: second,
+            first,
+            second,
         };
     }
     let t = first_other(cells, q, rise);
@@ -227,7 +223,7 @@ pub fn least_period(cells: &[i32], period: i64, distance: i64, granules: i64) ->
         if outcome.repeats {
             return Shortest {
                 period: q as i64,
-                tried: tried,
+                tried,
             };
         }
         first = outcome.first;
@@ -235,10 +231,7 @@ pub fn least_period(cells: &[i32], period: i64, distance: i64, granules: i64) ->
         m = next_divisor(g, m);
         tried += 1;
     }
-    Shortest {
-        period: period,
-        tried: tried,
-    }
+    Shortest { period, tried }
 }
 
 // The distance of the least row, by its period.

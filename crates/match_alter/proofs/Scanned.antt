@@ -1,5 +1,7 @@
 -- The loop that compares a claimed row with the altered granules: what holds between two stretches, what a step is given, and the end.
 -- Assumes nothing.
+use Rattle.calendar.specs.declared.Refusal.TheVariants.{LabelOutsideLimits}
+use Rattle.std.specs.Prelude.{Err, Ok}
 use mathlib.Core.Path.{◌≡◌, refl, sym, ◌∙◌, ap}
 use mathlib.Core.Option.{none, some}
 use mathlib.Core.Bool.{Bool, true, false}
@@ -23,7 +25,6 @@ use Rattle.alter_granules.specs.Given.{altering, Alterable}
 use Rattle.alter_granules.specs.Follows.{Follows, Starts}
 use Rattle.alter_granules.proofs.Followed.{follows-start, follows-later, seeks, place-behind}
 use Rattle.fill_alter.proofs.Scans.{Found, both, label_of, found-walk, found-label, found_as}
-use Rattle.match_shared.specs.declared.Matched.TheVariants.{Same, Different, OutOfRange}
 use Rattle.match_shared.specs.Matching.{agree, matched_as}
 use Rattle.match_shared.proofs.RightRow.{agree-iff}
 use Rattle.match_stretches.specs.declared.Compared.{Compared}
@@ -47,14 +48,14 @@ module _ (by : Alteration) (repeat : Repeat) (a b r : Row) (g : Alterable by rep
   abbrev o : Operation Row
   o = altering by a b
 
-  pub out_of_range : labels_in_range o ≡ false → OutOfRange ≡ matched_as o r
+  pub out_of_range : labels_in_range o ≡ false → (Err LabelOutsideLimits) ≡ matched_as o r
   out_of_range e = rw (some-labelled by repeat a b g, e)
 
   module _ (i : labels_in_range o ≡ true) where
-    pub is_same : agree o r (size o).period ≡ true → Same ≡ matched_as o r
+    pub is_same : agree o r (size o).period ≡ true → (Ok true) ≡ matched_as o r
     is_same e = rw (some-labelled by repeat a b g, i, e)
 
-    pub is-different : agree o r (size o).period ≡ false → Different ≡ matched_as o r
+    pub is-different : agree o r (size o).period ≡ false → (Ok false) ≡ matched_as o r
     is-different e = rw (some-labelled by repeat a b g, i, e)
 
 -- a difference stays one
@@ -80,14 +81,14 @@ module _ (by : Alteration) (repeat : Repeat) (a b r : Row) (period : ℕ) (g : A
 
   module _ (s : Scan) (p : Compared) (h : Scanned by repeat a b r period s p) where
     -- the end
-    pub scanned-done : period ≤ p.t → (p.same ≡ true → Same ≡ matched_as (altering by a b) r) × (p.same ≡ false → Different ≡ matched_as (altering by a b) r)
+    pub scanned-done : period ≤ p.t → (p.same ≡ true → (Ok true) ≡ matched_as (altering by a b) r) × (p.same ≡ false → (Ok false) ≡ matched_as (altering by a b) r)
     scanned-done m =
         let k : p.t ≡ (size (altering by a b)).period = omega (arith, h.stage.seen.at-most) in
         let e = h.stage.seen.is_same ∙ ap (agree (altering by a b) r) k in
         (λ f. is_same by repeat a b r g in-range (sym e ∙ f), λ f. is-different by repeat a b r g in-range (sym e ∙ f))
 
     -- a difference
-    pub scanned-other : p.same ≡ false → Different ≡ matched_as (altering by a b) r
+    pub scanned-other : p.same ≡ false → (Ok false) ≡ matched_as (altering by a b) r
     scanned-other f =
         is-different by repeat a b r g in-range
         (agree_less (altering by a b) r p.t (size (altering by a b)).period h.stage.seen.at-most (sym h.stage.seen.is_same ∙ f))

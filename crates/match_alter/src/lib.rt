@@ -17,9 +17,10 @@ use alter_granules::Repeat;
 use alter_granules::ahead::{Walk, advance_to};
 use alter_granules::behind::at_least;
 use alter_granules::origin::start_walk;
-use cursors::{Cursor, Found, cursor_label, cursor_next, label_of};
+use calendar::Refusal;
+use cursors::{Cursor, cursor_label, cursor_next, label_of};
 use kinds::{Alteration, Operand};
-use match_shared::{Matched, cells_of};
+use match_shared::cells_of;
 use match_stretches::{compare_leading, compare_stretch};
 
 // An instant, with its cursors in a and in the claimed row.
@@ -142,7 +143,7 @@ fn compare(
     a: Operand,
     b: Operand,
     r: Operand,
-) -> Matched
+) -> Result<bool, Refusal>
     requires alterable { Alterable by repeat (row_in pool.now a) (row_in pool.now b) }
     requires comparable { Comparable by a b r period pool.now }
     ensures { result ≡ matched_as (altering by (row_in pool.now a) (row_in pool.now b)) (row_in pool.now r) }
@@ -152,7 +153,7 @@ fn compare(
     let mut seen = compare_leading(period, pool, a, r);
     while seen.t < period {
         if !seen.same {
-            return Matched::Different;
+            return Ok(false);
         }
         let j = label_of(a_cells, a.period, a.distance, seen.cursor);
         let walk = scan.walk;
@@ -161,13 +162,9 @@ fn compare(
         } else {
             scan = find_behind(repeat, scan, j, pool, a, r);
         }
-        seen = compare_stretch(Found::At(scan.number), scan.high, seen, period, pool, a, r);
+        seen = compare_stretch(Some(scan.number), scan.high, seen, period, pool, a, r);
     }
-    if seen.same {
-        Matched::Same
-    } else {
-        Matched::Different
-    }
+    if seen.same { Ok(true) } else { Ok(false) }
 }
 
 // Compares a claimed row with the working row of an alteration. Check 11 is decided first.
@@ -179,7 +176,7 @@ pub fn match_alter(
     a: Operand,
     b: Operand,
     r: Operand,
-) -> Matched
+) -> Result<bool, Refusal>
     requires fillable { Fillable (Alter by) (row_in pool.now a) (row_in pool.now b) }
     requires claimed { Claimed (Alter by) a b r span period pool.now }
     ensures { result ≡ matched_as (over (Alter by) pool.now a b) (row_in pool.now r) }
@@ -190,7 +187,7 @@ pub fn match_alter(
         by, span, a_cells, a.period, a.distance, b_cells, b.period, b.distance,
     );
     if !alter_ends::in_limits(by, repeat, pool, a, b) {
-        return Matched::OutOfRange;
+        return Err(Refusal::LabelOutsideLimits);
     }
     compare(by, repeat, period, pool, a, b, r)
 }

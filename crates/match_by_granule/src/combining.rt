@@ -8,11 +8,12 @@ ghost use Rattle.fill_shared.specs.Placed.{over};
 ghost use Rattle.match_shared.specs.Claims.{Claimed};
 ghost use Rattle.match_shared.specs.Matching.{matched_as};
 
+use calendar::Refusal;
 use fill_by_granule::combining::combined;
 use fill_shared::any;
 use fill_stretches::in_limits;
 use kinds::Operand;
-use match_shared::{Matched, cells_of, outcome};
+use match_shared::{cells_of, outcome};
 use match_stretches::{compare_leading, compare_stretch};
 
 // Compares the claimed row r with the working row of a combination. Each granule of b is decided where its first label shows, and its instants are
@@ -24,7 +25,7 @@ pub fn match_combine(
     a: Operand,
     b: Operand,
     r: Operand,
-) -> Matched
+) -> Result<bool, Refusal>
     requires fillable { Fillable Combine (row_in pool.now a) (row_in pool.now b) }
     requires claimed { Claimed Combine a b r span period pool.now }
     ensures { result ≡ matched_as (over Combine pool.now a b) (row_in pool.now r) }
@@ -52,7 +53,7 @@ pub fn match_combine(
             b.distance,
         );
         if !in_limits(label) {
-            return Matched::OutOfRange;
+            return Err(Refusal::LabelOutsideLimits);
         }
         reached = compare_stretch(label, k, reached, period, pool, b, r);
         let steps = (reached.t - t) as i64;

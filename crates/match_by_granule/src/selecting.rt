@@ -8,11 +8,12 @@ ghost use Rattle.fill_shared.specs.Placed.{over};
 ghost use Rattle.match_shared.specs.Claims.{Claimed};
 ghost use Rattle.match_shared.specs.Matching.{matched_as};
 
+use calendar::Refusal;
 use fill_by_granule::selecting::kept;
 use fill_shared::any;
 use fill_stretches::in_limits;
 use kinds::{Operand, Selection};
-use match_shared::{Matched, cells_of, outcome};
+use match_shared::{cells_of, outcome};
 use match_stretches::{compare_leading, compare_stretch};
 
 // Compares the claimed row r with the working row of a selection, granule by granule of a: each is decided where its first label shows, and its
@@ -25,7 +26,7 @@ pub fn match_select(
     a: Operand,
     b: Operand,
     r: Operand,
-) -> Matched
+) -> Result<bool, Refusal>
     requires fillable { Fillable (Select by) (row_in pool.now a) (row_in pool.now b) }
     requires claimed { Claimed (Select by) a b r span period pool.now }
     ensures { result ≡ matched_as (over (Select by) pool.now a b) (row_in pool.now r) }
@@ -57,7 +58,7 @@ pub fn match_select(
         );
         let label = kept(j, decision.holds);
         if !in_limits(label) {
-            return Matched::OutOfRange;
+            return Err(Refusal::LabelOutsideLimits);
         }
         reached = compare_stretch(label, j, reached, period, pool, a, r);
         let steps = (reached.t - t) as i64;

@@ -10,11 +10,12 @@ ghost use Rattle.fill_pointwise.specs.Decided.{kind_of};
 ghost use Rattle.match_shared.specs.Matching.{matched_as};
 ghost use Rattle.match_shared.specs.Claims.{Claimed};
 
+use calendar::Refusal;
 use fill_pointwise::{Pointwise, Scanning};
 use fill_shared::last_before;
 use fill_stretches::in_limits;
 use kinds::Operand;
-use match_shared::{Matched, begin, cells_of, compared, outcome};
+use match_shared::{begin, cells_of, compared, outcome};
 
 // What the claimed row r is beside the working row.
 pub fn match_pointwise(
@@ -25,7 +26,7 @@ pub fn match_pointwise(
     a: Operand,
     b: Operand,
     r: Operand,
-) -> Matched
+) -> Result<bool, Refusal>
     requires fillable { Fillable (kind_of by) (row_in pool.now a) (row_in pool.now b) }
     requires claimed { Claimed (kind_of by) a b r span period pool.now }
     ensures { result ≡ matched_as (over (kind_of by) pool.now a b) (row_in pool.now r) }
@@ -38,18 +39,16 @@ pub fn match_pointwise(
         last: last_before(b_cells, b.period, b.distance),
     };
     let mut seen = begin();
-    let mut t = 0;
-    while t < period {
+    for t in 0..period {
         let stepped = fill_pointwise::step(
             by, s, t as i64, a_cells, a.period, a.distance, b_cells, b.period, b.distance,
         );
         let label = stepped.label;
         if !in_limits(label) {
-            return Matched::OutOfRange;
+            return Err(Refusal::LabelOutsideLimits);
         }
         seen = compared(label, pool, r, seen);
         s = stepped.next;
-        t += 1;
     }
     outcome(seen.labelled, seen.same)
 }

@@ -1,5 +1,8 @@
 -- A loop that compares a claimed row with the working row of an operation over rows of the pool: what it asks at an instant, and what it answers.
 -- Assumes nothing.
+use Rattle.calendar.specs.declared.Refusal.TheVariants.{NothingLabelled, LabelOutsideLimits}
+use Rattle.calendar.specs.declared.Refusal.{Refusal}
+use Rattle.std.specs.Prelude.{Err, Ok, Result, Bool, true}
 use mathlib.Core.Path.{◌≡◌, ◌∙◌}
 use mathlib.Core.Option.{Option}
 use mathlib.Core.Bool.{false, cond}
@@ -24,8 +27,6 @@ use Rattle.kinds.specs.declared.Kind.{Kind}
 use Rattle.kinds.specs.declared.Operand.{Operand}
 use Rattle.kinds.specs.Stands.{row_in}
 use Rattle.fill_shared.specs.Placed.{over}
-use Rattle.match_shared.specs.declared.Matched.{Matched}
-use Rattle.match_shared.specs.declared.Matched.TheVariants.{Same, Different, Unlabelled, OutOfRange}
 use Rattle.match_shared.specs.declared.Comparing.{Comparing}
 use Rattle.match_shared.specs.Matching.{matched_as}
 use Rattle.match_shared.specs.Claims.{Claimed}
@@ -52,7 +53,7 @@ module _ {k : Kind} {a b r : Operand} {span : ℤ} {period : ℕ} {pool : List �
     claim-below = let q : t < pool_limit = omega (arith, h.room, h.at-most) in simp ints (omega arith)
 
     -- its label is outside the limits
-    pub claim-outside : (l : Option ℤ) → l ≡ result o (pos t) → if_label l in_range ≡ false → OutOfRange ≡ matched_as o (row_in pool r)
+    pub claim-outside : (l : Option ℤ) → l ≡ result o (pos t) → if_label l in_range ≡ false → (Err LabelOutsideLimits) ≡ matched_as o (row_in pool r)
     claim-outside l e i = seen-outside o (row_in pool r) t claim-inside l e i
 
   module _ {t : ℕ} {c : Comparing} (w : Compares o (row_in pool r) t c) where
@@ -62,5 +63,5 @@ module _ {k : Kind} {a b r : Operand} {span : ℤ} {period : ℕ} {pool : List �
         (pos t, simp ints (omega arith), w.cursor)
 
     -- all instants
-    pub claim-matched : period ≤ t → (m : Matched) → m ≡ cond c.labelled (cond c.same Same Different) Unlabelled → m ≡ matched_as o (row_in pool r)
+    pub claim-matched : period ≤ t → (m : Result Bool Refusal) → m ≡ cond c.labelled (Ok c.same) (Err NothingLabelled) → m ≡ matched_as o (row_in pool r)
     claim-matched e m q = q ∙ seen-matched o (row_in pool r) t c.labelled c.same w.seen (omega (arith, h.is-period))

@@ -1,5 +1,7 @@
 -- A loop that compares a claimed row with the working row of an operation: what it knows after one instant more, and at the end.
 -- Assumes nothing.
+use Rattle.calendar.specs.declared.Refusal.TheVariants.{NothingLabelled, LabelOutsideLimits}
+use Rattle.std.specs.Prelude.{Err, Ok}
 use mathlib.Core.Path.{◌≡◌, refl, sym, ◌∙◌, ap, ap₂}
 use mathlib.Core.Option.{Option, none, some}
 use mathlib.Core.Bool.{Bool, true, false, not, cond, ◌&&◌, ◌||◌}
@@ -17,7 +19,6 @@ use Rattle.calendar.specs.Compute.{result}
 use Rattle.calendar.specs.Checks.{unlabelled, labels_in_range}
 use Rattle.granules.proofs.Tests.{true≢false, false-iff}
 use Rattle.granules.proofs.Lists.{all-iff, mem-from}
-use Rattle.match_shared.specs.declared.Matched.TheVariants.{Same, Different, Unlabelled, OutOfRange}
 use Rattle.match_shared.specs.Matching.{agree, matched_as}
 use Rattle.match_shared.specs.Seen.{Seen}
 
@@ -100,15 +101,15 @@ module _ (o : Operation Row) (r : Row) (t : ℕ) (labelled same : Bool) (s : See
         ∙ sym (not-not (all (λ u. not (is_some (result o u))) (from (pos 0) t)))
         ∙ ap not (sym s.is-labelled)
 
-    pub seen-matched : cond labelled (cond same Same Different) Unlabelled ≡ matched_as o r
+    pub seen-matched : cond labelled (Ok same) (Err NothingLabelled) ≡ matched_as o r
     seen-matched = rw (none-labelled, in-range, ap (agree o r) (sym whole), ← s.is_same) (by labelled)
       where
-        by : (l : Bool) → cond l (cond same Same Different) Unlabelled ≡ cond (not l) Unlabelled (cond same Same Different)
+        by : (l : Bool) → cond l (Ok same) (Err NothingLabelled) ≡ cond (not l) (Err NothingLabelled) (Ok same)
         by true = refl
         by false = refl
 
 -- an instant whose label is outside the limits
-pub seen-outside : (o : Operation Row) (r : Row) (t : ℕ) → t < (size o).period → (l : Option ℤ) → l ≡ result o (pos t) → if_label l in_range ≡ false → OutOfRange ≡ matched_as o r
+pub seen-outside : (o : Operation Row) (r : Row) (t : ℕ) → t < (size o).period → (l : Option ℤ) → l ≡ result o (pos t) → if_label l in_range ≡ false → (Err LabelOutsideLimits) ≡ matched_as o r
 unfolding unlabelled labels_in_range
 seen-outside o r t h none e i = absurd (true≢false refl i)
 seen-outside o r t h (some j) e i =

@@ -13,21 +13,13 @@ ghost use Rattle.calendar.specs.Compute.{result as result_of};
 ghost use Rattle.cursors.specs.Found.{found};
 ghost use Rattle.cursors.specs.Cursor.{Standing};
 ghost use Rattle.kinds.specs.Stands.{end, row_in, Stands};
-ghost use Rattle.match_shared.specs.declared.Matched.TheVariants.{Same, Different, Unlabelled};
+ghost use Rattle.calendar.specs.declared.Refusal.TheVariants.{NothingLabelled};
 ghost use Rattle.match_shared.specs.Seen.{Compares};
 
-use cursors::{Cursor, Found};
+use calendar::Refusal;
+use cursors::Cursor;
 use fill_shared::{any, end_of};
 use kinds::Operand;
-
-// What a claimed row is beside the working row: the same, another, or compared with a row that checks 12 and 11 refuse.
-#[derive(Clone, Copy)]
-pub enum Matched {
-    Same,
-    Different,
-    Unlabelled,
-    OutOfRange,
-}
 
 // What a loop carries: the cursor of its instant in the claimed row, whether an instant before it is labelled, and whether
 // the labels before it are the same.
@@ -50,40 +42,27 @@ pub fn cells_of(pool: &[i32], a: Operand) -> &[i32]
 }
 
 // Whether two labels are the same, or both are missing.
-pub fn same_label(x: Found, y: Found) -> bool
+pub fn same_label(x: Option<i64>, y: Option<i64>) -> bool
     ensures { result ≡ same_label (found x) (found y) }
 {
-    match x {
-        Found::At(i) => match y {
-            Found::At(j) => i == j,
-            Found::Nothing => false,
-        },
-        Found::Nothing => match y {
-            Found::At(_) => false,
-            Found::Nothing => true,
-        },
-    }
+    x == y
 }
 
 // Whether all labels are the same, those before and these two.
-pub fn still_same(same: bool, x: Found, y: Found) -> bool
+pub fn still_same(same: bool, x: Option<i64>, y: Option<i64>) -> bool
     ensures { result ≡ same && same_label (found x) (found y) }
 {
     if same { same_label(x, y) } else { false }
 }
 
 // What a claimed row is beside a working row whose labels are all within the limits.
-pub fn outcome(labelled: bool, same: bool) -> Matched
-    ensures { result ≡ cond labelled (cond same Same Different) Unlabelled }
+pub fn outcome(labelled: bool, same: bool) -> Result<bool, Refusal>
+    ensures { result ≡ cond labelled (Ok same) (Err NothingLabelled) }
 {
     if labelled {
-        if same {
-            Matched::Same
-        } else {
-            Matched::Different
-        }
+        Ok(same)
     } else {
-        Matched::Unlabelled
+        Err(Refusal::NothingLabelled)
     }
 }
 
@@ -99,7 +78,7 @@ pub fn begin() -> Comparing
 }
 
 // One instant more, which has the label in the working row.
-pub fn compared(label: Found, pool: &[i32], r: Operand, s: Comparing) -> Comparing
+pub fn compared(label: Option<i64>, pool: &[i32], r: Operand, s: Comparing) -> Comparing
     requires pos_bound { pos 0 ≤ℤ r.period }
     requires stands { Stands pool.now r }
     requires standing { Standing (row_in pool.now r) s.cursor }
@@ -109,7 +88,7 @@ pub fn compared(label: Found, pool: &[i32], r: Operand, s: Comparing) -> Compari
     let own = cursors::cursor_label(cells, r.period, r.distance, s.cursor);
     let cursor = cursors::cursor_next(cells, r.period, r.distance, s.cursor);
     Comparing {
-        cursor: cursor,
+        cursor,
         labelled: any(s.labelled, label),
         same: still_same(s.same, own, label),
     }

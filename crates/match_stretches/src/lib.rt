@@ -9,7 +9,7 @@ ghost use Rattle.cursors.specs.Found.{found};
 ghost use Rattle.kinds.specs.Stands.{row_in};
 ghost use Rattle.match_stretches.specs.Stretch.{Room, Follows, Stretched, Led};
 
-use cursors::{Cursor, Found};
+use cursors::Cursor;
 use kinds::Operand;
 use match_shared::{cells_of, still_same};
 
@@ -27,29 +27,29 @@ pub struct Compared {
 }
 
 // Whether a label, where there is one, is at most `high`.
-fn at_most(label: Found, high: i64) -> bool
+fn at_most(label: Option<i64>, high: i64) -> bool
     ensures { result ≡ if_label (found label) (λ j. le_z j high) }
 {
     match label {
-        Found::At(j) => j <= high,
-        Found::Nothing => true,
+        Some(j) => j <= high,
+        None => true,
     }
 }
 
 // `label` at an instant that has a label in the row that is followed, none at another.
-fn where_labelled(followed: Found, label: Found) -> Found
+fn where_labelled(followed: Option<i64>, label: Option<i64>) -> Option<i64>
     ensures { found result ≡ on_label (found followed) (λ j. found label) }
 {
     match followed {
-        Found::At(_) => label,
-        Found::Nothing => Found::Nothing,
+        Some(_) => label,
+        None => None,
     }
 }
 
 // Compares the claimed row r at the instants that follow, as far as the row a has no label above `high`, and not beyond `size` instants: with
 // `label` where a has a label, with none where it has none.
 pub fn compare_stretch(
-    label: Found,
+    label: Option<i64>,
     high: i64,
     from: Compared,
     size: usize,
@@ -63,11 +63,10 @@ pub fn compare_stretch(
 {
     let a_cells = cells_of(pool, a);
     let r_cells = cells_of(pool, r);
-    let mut t = from.t;
     let mut cursor = from.cursor;
     let mut claim = from.claim;
     let mut same = from.same;
-    while t < size {
+    for t in from.t..size {
         let followed = cursors::cursor_label(a_cells, a.period, a.distance, cursor);
         if !at_most(followed, high) {
             return Compared {
@@ -81,10 +80,9 @@ pub fn compare_stretch(
         same = still_same(same, claimed, where_labelled(followed, label));
         cursor = cursors::cursor_next(a_cells, a.period, a.distance, cursor);
         claim = cursors::cursor_next(r_cells, r.period, r.distance, claim);
-        t += 1;
     }
     Compared {
-        t,
+        t: size,
         cursor,
         claim,
         same,
@@ -103,5 +101,5 @@ pub fn compare_leading(size: usize, pool: &[i32], a: Operand, r: Operand) -> Com
         claim: start,
         same: true,
     };
-    compare_stretch(Found::Nothing, BELOW_LABELS, from, size, pool, a, r)
+    compare_stretch(None, BELOW_LABELS, from, size, pool, a, r)
 }

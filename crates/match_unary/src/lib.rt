@@ -17,12 +17,12 @@ ghost use Rattle.match_shared.specs.Matching.{matched_as};
 ghost use Rattle.match_shared.specs.Claims.{Claimed};
 ghost use Rattle.match_unary.specs.Numbered.{kind_of, number_in, next_number, Counts};
 
-use cursors::Found;
+use calendar::Refusal;
 use fill_shared::last_before;
 use fill_stretches::in_limits;
 use fill_unary::renumbering::number_of;
 use kinds::Operand;
-use match_shared::{Matched, begin, cells_of, compared, outcome};
+use match_shared::{begin, cells_of, compared, outcome};
 
 // The kinds over one row, with their numbers.
 #[derive(Clone, Copy)]
@@ -54,14 +54,14 @@ fn next_number(by: Unary, number: i64, j: i64) -> i64
 }
 
 // The last label and its number behind an instant with the label.
-fn next_counted(by: Unary, k: Counted, label: Found) -> Counted
+fn next_counted(by: Unary, k: Counted, label: Option<i64>) -> Counted
     requires numbers { Numbers (kind_of by) }
     requires within { Within (2 ^ 40) k.number }
     requires within_2 { (j : ℤ) → found label ≡ some j → Within (2 ^ 40) j }
     ensures { (a : Row) (t : ℤ) → Valid a → Counts by a t k → found label ≡ meant a t → Counts by a (t +ℤ pos 1) result }
 {
     match label {
-        Found::At(j) => {
+        Some(j) => {
             if j == k.last {
                 k
             } else {
@@ -71,17 +71,17 @@ fn next_counted(by: Unary, k: Counted, label: Found) -> Counted
                 }
             }
         }
-        Found::Nothing => k,
+        None => k,
     }
 }
 
 // The number in the place of a label.
-fn numbered(label: Found, number: i64) -> Found
+fn numbered(label: Option<i64>, number: i64) -> Option<i64>
     ensures { found result ≡ map (λ j. number) (found label) }
 {
     match label {
-        Found::At(_) => Found::At(number),
-        Found::Nothing => Found::Nothing,
+        Some(_) => Some(number),
+        None => None,
     }
 }
 
@@ -107,7 +107,7 @@ pub fn match_unary(
     a: Operand,
     b: Operand,
     r: Operand,
-) -> Matched
+) -> Result<bool, Refusal>
     requires fillable { Fillable (kind_of by) (row_in pool.now a) (row_in pool.now b) }
     requires claimed { Claimed (kind_of by) a b r span period pool.now }
     ensures { result ≡ matched_as (over (kind_of by) pool.now a b) (row_in pool.now r) }
@@ -115,22 +115,20 @@ pub fn match_unary(
     let cells = cells_of(pool, a);
     let last = last_before(cells, a.period, a.distance);
     let mut k = Counted {
-        last: last,
+        last,
         number: first_number(by, last, cells, a.period, a.distance),
     };
     let mut cursor = cursors::cursor_at(cells, a.period, a.distance, 0);
     let mut seen = begin();
-    let mut t = 0;
-    while t < period {
+    for t in 0..period {
         let own = cursors::cursor_label(cells, a.period, a.distance, cursor);
         cursor = cursors::cursor_next(cells, a.period, a.distance, cursor);
         k = next_counted(by, k, own);
         let label = numbered(own, k.number);
         if !in_limits(label) {
-            return Matched::OutOfRange;
+            return Err(Refusal::LabelOutsideLimits);
         }
         seen = compared(label, pool, r, seen);
-        t += 1;
     }
     outcome(seen.labelled, seen.same)
 }

@@ -9,9 +9,9 @@ ghost use Rattle.fill_shared.specs.Placed.{over};
 ghost use Rattle.match_shared.specs.Claims.{Claimed};
 ghost use Rattle.match_shared.specs.Matching.{matched_as};
 
+use calendar::Refusal;
 use fill_pointwise::Pointwise;
 use kinds::{Kind, Operand};
-use match_shared::Matched;
 use match_unary::Unary;
 
 mod bottom;
@@ -25,7 +25,7 @@ pub fn compare(
     a: Operand,
     b: Operand,
     r: Operand,
-) -> Matched
+) -> Result<bool, Refusal>
     requires fillable { Fillable kind (row_in pool.now a) (row_in pool.now b) }
     requires claimed { Claimed kind a b r span period pool.now }
     ensures { result ≡ matched_as (over kind pool.now a b) (row_in pool.now r) }

@@ -31,16 +31,11 @@ pub fn others(first: i32, cells: &[i32]) -> u32
 {
     let mut count: u32 = 0;
     let mut label = first;
-    let mut i = 0;
-    while i < cells.len() {
-        let z = cells[i];
-        if z != label {
-            if z != Calendar::EMPTY {
-                count += 1;
-            }
+    for &z in cells {
+        if z != label && z != Calendar::EMPTY {
+            count += 1;
         }
         label += 1;
-        i += 1;
     }
     count
 }

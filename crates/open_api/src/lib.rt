@@ -11,8 +11,7 @@ ghost use Rattle.open_map.specs.Answers.{instant_reply};
 ghost use Rattle.row_maps.specs.Making.{map_reply, map_after, refusal};
 ghost use Rattle.open_api.specs.Codes.{map_code};
 
-use open_map::{OpenInstant, OpenNumber};
-use row_maps::Made;
+use calendar::Refusal;
 
 pub mod steps;
 
@@ -23,8 +22,8 @@ pub fn map(cells: &[i32], period: i64, distance: i64, words: &mut [u64]) -> i64
 {
     let made = row_maps::make(words, cells, period, distance);
     match made {
-        Made::Done => 0,
-        Made::Refused(x) => codes::refusal_code(x),
+        Ok(()) => 0,
+        Err(x) => codes::refusal_code(x),
     }
 }
 
@@ -34,22 +33,22 @@ pub fn count(words: &[u64], period: i64, s: i64, t: i64) -> i64
 {
     let counted = open_map::count(words, period, s, t);
     match counted {
-        OpenNumber::Is(n) => n,
-        OpenNumber::Refused(x) => codes::refusal_code(x),
+        Ok(n) => n,
+        Err(x) => codes::refusal_code(x),
     }
 }
 
 // An open instant, in `found`: 0; or a refusal, with zero.
-fn told(instant: OpenInstant, found: &mut i64) -> i64
+fn told(instant: Result<i64, Refusal>, found: &mut i64) -> i64
     ensures code { result ≡ value_code (instant_reply instant) }
     ensures found { found.new ≡ value_left (instant_reply instant) }
 {
     match instant {
-        OpenInstant::At(t) => {
+        Ok(t) => {
             *found = t;
             0
         }
-        OpenInstant::Refused(x) => {
+        Err(x) => {
             *found = 0;
             codes::refusal_code(x)
         }

@@ -6,9 +6,6 @@ ghost use Rattle.open_map.specs.Maps.{map_given};
 ghost use Rattle.open_steps.specs.Inquiries.{nth_reply, between_reply};
 ghost use Rattle.open_api.specs.StepCodes.{step_code, step_left};
 
-use open_map::OpenNumber;
-use open_steps::OpenStep;
-
 // The n-th open instant after x or before it, in `found`: 1; or 0 if there is none, with zero; or a refusal, with zero.
 pub fn nth(words: &[u64], period: i64, x: i64, n: i64, found: &mut i64) -> i64
     ensures code { result ≡ step_code (nth_reply (map_given period words.now) x n) }
@@ -16,15 +13,15 @@ pub fn nth(words: &[u64], period: i64, x: i64, n: i64, found: &mut i64) -> i64
 {
     let step = open_steps::nth(words, period, x, n);
     match step {
-        OpenStep::At(t) => {
+        Ok(Some(t)) => {
             *found = t;
             1
         }
-        OpenStep::Nothing => {
+        Ok(None) => {
             *found = 0;
             0
         }
-        OpenStep::Refused(refusal) => {
+        Err(refusal) => {
             *found = 0;
             codes::refusal_code(refusal)
         }
@@ -39,11 +36,11 @@ pub fn between(words: &[u64], period: i64, x: i64, y: i64, number: &mut i64) -> 
 {
     let counted = open_steps::between(words, period, x, y);
     match counted {
-        OpenNumber::Is(n) => {
+        Ok(n) => {
             *number = n;
             0
         }
-        OpenNumber::Refused(refusal) => {
+        Err(refusal) => {
             *number = 0;
             codes::refusal_code(refusal)
         }

@@ -1,5 +1,6 @@
 -- The open instant that a set cell stands for: the next and the last, by the turn and the cell of an instant.
 -- Assumes nothing.
+use Rattle.std.specs.Prelude.{None, Option, Some}
 use mathlib.Core.Path.{◌≡◌, refl, sym, ◌∙◌, ap}
 use mathlib.Core.Bool.{true}
 use mathlib.Core.List.{List}
@@ -13,8 +14,6 @@ use Rattle.integers.proofs.Linear.{ints, ◌∴◌}
 use Rattle.words.specs.Bits.{cell}
 use Rattle.words.specs.Places.{Clear, Least, Greatest}
 use Rattle.words.proofs.Tally.{tally-zero, tally-clear}
-use Rattle.bitmaps.specs.declared.Place.{Place}
-use Rattle.bitmaps.specs.declared.Place.TheVariants.{At, Nowhere}
 use Rattle.open_map.specs.Instants.{next_open, last_open}
 use Rattle.open_map.specs.Maps.{Map, map_given, is_open}
 use Rattle.open_map.specs.Turns.{rank, set_before}
@@ -23,9 +22,9 @@ use Rattle.open_map.proofs.Shown.{instant_of, rank-at, rank-end, open_at, rank_s
 use Rattle.open_map.proofs.Ranks.{next-is, last-is}
 
 -- a place that is at no cell
-pub nowhere : (p : Place) → ((i : ℕ) → ¬ (p ≡ At i)) → p ≡ Nowhere
-nowhere (At i) h = absurd (h i refl)
-nowhere Nowhere h = refl
+pub nowhere : (p : Option ℕ) → ((i : ℕ) → ¬ (p ≡ Some i)) → p ≡ None
+nowhere (Some i) h = absurd (h i refl)
+nowhere None h = refl
 
 module _ (period : ℤ) (words : List ℕ) (g : Given period words) where
   abbrev map : Map

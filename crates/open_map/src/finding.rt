@@ -10,7 +10,6 @@ ghost use Rattle.open_map.specs.Maps.{map_given, is_open};
 ghost use Rattle.open_map.specs.Turns.{Sound};
 
 use super::turns;
-use bitmaps::Place;
 
 // The first set cell of a map.
 fn first_cell(words: &[u64], period: i64) -> usize
@@ -18,7 +17,7 @@ fn first_cell(words: &[u64], period: i64) -> usize
     ensures { Least (cell words.now) 0 result }
 {
     let place = bitmaps::first_from(words, 0);
-    let Place::At(i) = place else {
+    let Some(i) = place else {
         return 0;
     };
     i
@@ -30,7 +29,7 @@ fn last_cell(words: &[u64], period: i64) -> usize
     ensures { Greatest (cell words.now) (up period) result }
 {
     let place = bitmaps::last_below(words, period as usize);
-    let Place::At(i) = place else {
+    let Some(i) = place else {
         return 0;
     };
     i
@@ -46,7 +45,7 @@ pub fn next_of(words: &[u64], period: i64, x: i64) -> i64
     let cell = at.cell;
     let turn = at.turn;
     let place = bitmaps::first_from(words, cell);
-    let Place::At(i) = place else {
+    let Some(i) = place else {
         let first = first_cell(words, period);
         return turns::composed(period, turn + 1, first);
     };
@@ -63,7 +62,7 @@ pub fn last_of(words: &[u64], period: i64, x: i64) -> i64
     let cell = at.cell;
     let turn = at.turn;
     let place = bitmaps::last_below(words, cell);
-    let Place::At(i) = place else {
+    let Some(i) = place else {
         let last = last_cell(words, period);
         return turns::composed(period, turn - 1, last);
     };

@@ -14,20 +14,6 @@ use calendar::{Calendar, LONGEST_PERIOD, Refusal};
 pub mod finding;
 pub mod turns;
 
-// How many open instants there are.
-#[derive(Clone, Copy)]
-pub enum OpenNumber {
-    Is(i64),
-    Refused(Refusal),
-}
-
-// An open instant.
-#[derive(Clone, Copy)]
-pub enum OpenInstant {
-    At(i64),
-    Refused(Refusal),
-}
-
 // The map passes check 13.
 pub fn sound(words: &[u64], period: i64) -> bool
     ensures { result ≡ map_sound (map_given period words.now) }
@@ -65,40 +51,40 @@ fn count_of(words: &[u64], period: i64, s: i64, t: i64) -> i64
 
 // How many open instants there are from s up to but not including t. Refuses 13, then 14. Costs the turns of s and t,
 // and one pass over the words at the most (over those of s to t inside a turn), beside one over the zero words in front.
-pub fn count(words: &[u64], period: i64, s: i64, t: i64) -> OpenNumber
+pub fn count(words: &[u64], period: i64, s: i64, t: i64) -> Result<i64, Refusal>
     ensures { number_reply result ≡ I.count_reply (map_given period words.now) s t }
 {
     if !sound(words, period) {
-        return OpenNumber::Refused(Refusal::RowNotSound);
+        return Err(Refusal::RowNotSound);
     }
     if !ordered(s, t) {
-        return OpenNumber::Refused(Refusal::ArgumentOutsideLimits);
+        return Err(Refusal::ArgumentOutsideLimits);
     }
-    OpenNumber::Is(count_of(words, period, s, t))
+    Ok(count_of(words, period, s, t))
 }
 
 // The next open instant above x. Refuses 13, 14. Costs two passes over the words at the most.
-pub fn next(words: &[u64], period: i64, x: i64) -> OpenInstant
+pub fn next(words: &[u64], period: i64, x: i64) -> Result<i64, Refusal>
     ensures { instant_reply result ≡ I.next_reply (map_given period words.now) x }
 {
     if !sound(words, period) {
-        return OpenInstant::Refused(Refusal::RowNotSound);
+        return Err(Refusal::RowNotSound);
     }
     if !Calendar::in_range(x) {
-        return OpenInstant::Refused(Refusal::ArgumentOutsideLimits);
+        return Err(Refusal::ArgumentOutsideLimits);
     }
-    OpenInstant::At(finding::next_of(words, period, x))
+    Ok(finding::next_of(words, period, x))
 }
 
 // The last open instant below x. Refuses 13, 14. Costs two passes over the words at the most.
-pub fn last(words: &[u64], period: i64, x: i64) -> OpenInstant
+pub fn last(words: &[u64], period: i64, x: i64) -> Result<i64, Refusal>
     ensures { instant_reply result ≡ I.last_reply (map_given period words.now) x }
 {
     if !sound(words, period) {
-        return OpenInstant::Refused(Refusal::RowNotSound);
+        return Err(Refusal::RowNotSound);
     }
     if !Calendar::in_range(x) {
-        return OpenInstant::Refused(Refusal::ArgumentOutsideLimits);
+        return Err(Refusal::ArgumentOutsideLimits);
     }
-    OpenInstant::At(finding::last_of(words, period, x))
+    Ok(finding::last_of(words, period, x))
 }

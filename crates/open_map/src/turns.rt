@@ -21,7 +21,7 @@ pub fn turn_of(period: i64, t: i64) -> Turned
     let turn = integers::floor_div(t, period);
     let cell = integers::floor_mod(t, period);
     Turned {
-        turn: turn,
+        turn,
         cell: cell as usize,
     }
 }

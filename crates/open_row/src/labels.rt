@@ -23,17 +23,15 @@ fn nth_from(cells: &[i32], start: usize, k: usize) -> usize
     ensures { Nth (labelled cells.now) (labelled_before cells.now start + k) result }
 {
     let mut left = k;
-    let mut i = start;
-    while i < cells.len() {
+    for i in start..cells.len() {
         if cells[i] != Calendar::EMPTY {
             if left == 0 {
                 return i;
             }
             left -= 1;
         }
-        i += 1;
     }
-    i
+    cells.len()
 }
 
 // The cell with a label and k such cells before it: block by block, then in the block that has it.

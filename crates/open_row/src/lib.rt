@@ -11,9 +11,6 @@ ghost use Rattle.open_steps.specs.Answers.{step_reply};
 ghost use Rattle.open_row.specs.Inquiries.{nth_reply, between_reply};
 
 use calendar::Refusal;
-use cursors::Found;
-use open_map::OpenNumber;
-use open_steps::OpenStep;
 
 mod labels;
 mod steps;
@@ -21,32 +18,34 @@ mod steps;
 // So many steps on from x, or back for `steps` below 0, each to the next open instant; for 0 it is x where x is open,
 // and else none. Refuses 13, then 14. Costs two divisions, and four passes over the row at the most, one of them for
 // check 13.
-pub fn nth_open(x: i64, steps: i64, cells: &[i32], period: i64, distance: i64) -> OpenStep
+pub fn nth_open(
+    x: i64,
+    steps: i64,
+    cells: &[i32],
+    period: i64,
+    distance: i64,
+) -> Result<Option<i64>, Refusal>
     ensures { step_reply result ≡ nth_reply (given period distance cells.now) x steps }
 {
     if !row_check::sound(cells, period, distance) {
-        return OpenStep::Refused(Refusal::RowNotSound);
+        return Err(Refusal::RowNotSound);
     }
     if !open_steps::steps::may_step(x, steps) {
-        return OpenStep::Refused(Refusal::ArgumentOutsideLimits);
+        return Err(Refusal::ArgumentOutsideLimits);
     }
-    let instant = steps::nth_of(cells, period, distance, x, steps);
-    match instant {
-        Found::At(t) => OpenStep::At(t),
-        Found::Nothing => OpenStep::Nothing,
-    }
+    Ok(steps::nth_of(cells, period, distance, x, steps))
 }
 
 // How many open instants t there are with x < t ≤ y, and minus that for the pair the other way round. Refuses 13,
 // then 14. Costs two divisions, and four passes over the row at the most, one of them for check 13.
-pub fn between(x: i64, y: i64, cells: &[i32], period: i64, distance: i64) -> OpenNumber
+pub fn between(x: i64, y: i64, cells: &[i32], period: i64, distance: i64) -> Result<i64, Refusal>
     ensures { number_reply result ≡ between_reply (given period distance cells.now) x y }
 {
     if !row_check::sound(cells, period, distance) {
-        return OpenNumber::Refused(Refusal::RowNotSound);
+        return Err(Refusal::RowNotSound);
     }
     if !open_steps::steps::both_in_range(x, y) {
-        return OpenNumber::Refused(Refusal::ArgumentOutsideLimits);
+        return Err(Refusal::ArgumentOutsideLimits);
     }
-    OpenNumber::Is(steps::between_of(cells, period, distance, x, y))
+    Ok(steps::between_of(cells, period, distance, x, y))
 }

@@ -13,7 +13,6 @@ ghost use Rattle.open_row.specs.Inquiries.{opens};
 ghost use Rattle.open_row.specs.Shown.{labelled_before, shown_by};
 
 use super::labels;
-use cursors::Found;
 use open_map::turns;
 
 // The rank of the instant t, where a turn has `total` open instants.
@@ -50,8 +49,8 @@ fn is_open(cells: &[i32], period: i64, distance: i64, x: i64) -> bool
 {
     let label = cursors::label_at(cells, period, distance, x);
     match label {
-        Found::At(_) => true,
-        Found::Nothing => false,
+        Some(_) => true,
+        None => false,
     }
 }
 
@@ -72,21 +71,21 @@ fn open_from(cells: &[i32], period: i64, distance: i64, t: i64, k: i64) -> i64
 }
 
 // The n-th open instant after x, or before x for an n below 0; for 0 it is x, where x is open.
-pub fn nth_of(cells: &[i32], period: i64, distance: i64, x: i64, n: i64) -> Found
+pub fn nth_of(cells: &[i32], period: i64, distance: i64, x: i64, n: i64) -> Option<i64>
     requires sound { Sound period distance cells.now }
     requires n_value { may_step x n ≡ true }
     ensures { found result ≡ nth_open (up period) (opens (given period distance cells.now)) x n }
 {
     if 0 < n {
-        return Found::At(open_from(cells, period, distance, x + 1, n - 1));
+        return Some(open_from(cells, period, distance, x + 1, n - 1));
     }
     if n < 0 {
-        return Found::At(open_from(cells, period, distance, x, n));
+        return Some(open_from(cells, period, distance, x, n));
     }
     if is_open(cells, period, distance, x) {
-        Found::At(x)
+        Some(x)
     } else {
-        Found::Nothing
+        None
     }
 }
 

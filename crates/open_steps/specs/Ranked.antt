@@ -1,13 +1,11 @@
 -- A set cell by how many stand before it, and an open instant by its rank, as the code finds them.
-use Rattle.std.specs.Prelude.{◌≡◌, true, List, ℕ, ◌+◌, ◌*◌, ◌^◌, ◌≤◌, ◌<◌, ℤ, pos, ◌+ℤ◌, ◌*ℤ◌, length}
+use Rattle.std.specs.Prelude.{◌≡◌, true, List, ℕ, ◌+◌, ◌*◌, ◌^◌, ◌≤◌, ◌<◌, ℤ, pos, ◌+ℤ◌, ◌*ℤ◌, length, Err, Ok, Result}
 use Rattle.integers.specs.Parts.{up}
 use Rattle.cursors.specs.Found.{Within}
 use Rattle.words.specs.Bits.{cell, tally}
 use Rattle.open_map.specs.Maps.{Map, is_open}
 use Rattle.open_map.specs.Turns.{rank}
 use Rattle.open_steps.specs.declared.cells.Passed.{Passed}
-use Rattle.open_steps.specs.declared.cells.Selected.{Selected}
-use Rattle.open_steps.specs.declared.cells.Selected.TheVariants.{At, Short}
 
 -- i is the set place with k set places before it
 pub record Nth (f : ℕ → ℕ) (k i : ℕ) : Type 0 where
@@ -20,14 +18,14 @@ pub record Below (f : ℕ → ℕ) (c k i : ℕ) : Type 0 where
   pub rank : tally f i + (k + 1) ≡ tally f c
 
 -- the set cell with k set cells from c up to it, or how many are lacking for k
-abbrev pub NthFrom : List ℕ → ℕ → ℕ → Selected → Type 0
-NthFrom words c k (At i) = Nth (cell words) (tally (cell words) c + k) i
-NthFrom words c k (Short l) = tally (cell words) (64 * length words) + l ≡ tally (cell words) c + k
+abbrev pub NthFrom : List ℕ → ℕ → ℕ → Result ℕ ℕ → Type 0
+NthFrom words c k (Ok i) = Nth (cell words) (tally (cell words) c + k) i
+NthFrom words c k (Err l) = tally (cell words) (64 * length words) + l ≡ tally (cell words) c + k
 
 -- the set cell with k set cells between it and c, or how many are lacking for k
-abbrev pub NthBelow : List ℕ → ℕ → ℕ → Selected → Type 0
-NthBelow words c k (At i) = Below (cell words) c k i
-NthBelow words c k (Short l) = tally (cell words) c + l ≡ k
+abbrev pub NthBelow : List ℕ → ℕ → ℕ → Result ℕ ℕ → Type 0
+NthBelow words c k (Ok i) = Below (cell words) c k i
+NthBelow words c k (Err l) = tally (cell words) c + l ≡ k
 
 -- k set cells from the word i on are those up to another word and the ones left
 pub record PassedUp (words : List ℕ) (i k : ℕ) (r : Passed) : Type 0 where

@@ -4,13 +4,6 @@ ghost use Rattle.std.specs.Prelude.{◌≡◌, ◌<◌, eqb};
 ghost use Rattle.words.specs.Bits.{bit, cell, tally};
 ghost use Rattle.open_steps.specs.Ranked.{Nth};
 
-// A set cell, or by how many the set cells are too few.
-#[derive(Clone, Copy)]
-pub enum Selected {
-    At(usize),
-    Short(usize),
-}
-
 // Where a search by whole words has come to, and how many set cells are left to pass.
 #[derive(Clone, Copy)]
 pub struct Passed {

@@ -6,7 +6,7 @@ ghost use Rattle.bitmaps.specs.Cells.{Few, Within};
 ghost use Rattle.open_steps.specs.Ranked.{Below, NthBelow, PassedDown};
 
 use super::cells;
-use super::cells::{Passed, Selected};
+use super::cells::Passed;
 
 // Blocks of words before the word i are passed by their counts, as long as at most k set cells are passed.
 fn blocks(words: &[u64], i: usize, k: usize) -> Passed
@@ -18,41 +18,33 @@ fn blocks(words: &[u64], i: usize, k: usize) -> Passed
     while bitmaps::BLOCK <= word {
         let n = bitmaps::ones_in(words, word - bitmaps::BLOCK, word);
         if left < n {
-            return Passed {
-                word: word,
-                left: left,
-            };
+            return Passed { word, left };
         }
         left -= n;
         word -= bitmaps::BLOCK;
     }
-    Passed {
-        word: word,
-        left: left,
-    }
+    Passed { word, left }
 }
 
 // The set cell with k set cells between it and the word i, word by word.
-fn by_words(words: &[u64], i: usize, k: usize) -> Selected
+fn by_words(words: &[u64], i: usize, k: usize) -> Result<usize, usize>
     requires { Few words.now × (i ≤ length words.now) }
     ensures { NthBelow words.now (64 * i) k result }
 {
-    let mut word = i;
     let mut left = k;
-    while 0 < word {
-        let w = words[word - 1];
+    for word in (0..i).rev() {
+        let w = words[word];
         let n = words::ones_of(w);
         if left < n {
-            return Selected::At(64 * (word - 1) + cells::place_of(w, n - 1 - left));
+            return Ok(64 * word + cells::place_of(w, n - 1 - left));
         }
         left -= n;
-        word -= 1;
     }
-    Selected::Short(left)
+    Err(left)
 }
 
 // The set cell with k set cells between it and the cell c: in the word of c, then by blocks and words.
-pub fn nth_below(words: &[u64], c: usize, k: usize) -> Selected
+pub fn nth_below(words: &[u64], c: usize, k: usize) -> Result<usize, usize>
     requires { Within words.now c }
     ensures { NthBelow words.now c k result }
 {
@@ -60,7 +52,7 @@ pub fn nth_below(words: &[u64], c: usize, k: usize) -> Selected
     let w = bitmaps::word_at(words, i);
     let n = words::ones_below(w, c % 64);
     if k < n {
-        return Selected::At(64 * i + cells::place_of(w, n - 1 - k));
+        return Ok(64 * i + cells::place_of(w, n - 1 - k));
     }
     let passed = blocks(words, i, k - n);
     let word = passed.word;
@@ -74,7 +66,7 @@ pub fn nth_cell(words: &[u64], c: usize, k: usize) -> usize
 {
     let found = nth_below(words, c, k);
     match found {
-        Selected::At(i) => i,
-        Selected::Short(_) => 0,
+        Ok(i) => i,
+        Err(_) => 0,
     }
 }

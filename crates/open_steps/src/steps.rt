@@ -9,12 +9,9 @@ ghost use Rattle.open_map.specs.Maps.{map_given, is_open};
 ghost use Rattle.open_steps.specs.Inquiries.{may_step};
 ghost use Rattle.open_map.specs.Turns.{Sound};
 ghost use Rattle.open_steps.specs.Ranked.{NthFrom, NthBelow, Near, instant_at, OpenFrom};
-ghost use Rattle.open_steps.specs.declared.cells.Selected.TheVariants as Selected;
 
-use super::cells::Selected;
 use super::{cells, downward, upward};
 use calendar::Calendar;
-use cursors::Found;
 use open_map::turns;
 
 // The most steps.
@@ -56,7 +53,7 @@ fn is_open(words: &[u64], period: i64, x: i64) -> bool
 // The open instant with k open instants from the cell of a turn up to it, where this turn has `lacking` too few.
 fn turns_on(words: &[u64], period: i64, turn: i64, cell: usize, k: usize, lacking: usize) -> i64
     requires sound { Sound period words.now }
-    requires near { Near period turn cell × (k ≤ 2 ^ 31) × NthFrom words.now cell k (Selected.Short lacking) }
+    requires near { Near period turn cell × (k ≤ 2 ^ 31) × NthFrom words.now cell k (Err lacking) }
     ensures { OpenFrom (map_given period words.now) (instant_at period turn cell) (pos k) result }
 {
     let total = bitmaps::ones_before(words, cell) + (k - lacking);
@@ -77,15 +74,15 @@ fn open_on(words: &[u64], period: i64, t: i64, k: usize) -> i64
     let cell = at.cell;
     let found = upward::nth_from(words, cell, k);
     match found {
-        Selected::At(i) => turns::composed(period, turn, i),
-        Selected::Short(lacking) => turns_on(words, period, turn, cell, k, lacking),
+        Ok(i) => turns::composed(period, turn, i),
+        Err(lacking) => turns_on(words, period, turn, cell, k, lacking),
     }
 }
 
 // The open instant with k open instants between it and the cell of a turn, where this turn has `lacking` too few.
 fn turns_back(words: &[u64], period: i64, turn: i64, cell: usize, k: usize, lacking: usize) -> i64
     requires sound { Sound period words.now }
-    requires near { Near period turn cell × (k ≤ 2 ^ 31) × NthBelow words.now cell k (Selected.Short lacking) }
+    requires near { Near period turn cell × (k ≤ 2 ^ 31) × NthBelow words.now cell k (Err lacking) }
     ensures { OpenFrom (map_given period words.now) (instant_at period turn cell) (negsuc k) result }
 {
     let cells = period as usize;
@@ -107,8 +104,8 @@ fn open_back(words: &[u64], period: i64, t: i64, k: usize) -> i64
     let cell = at.cell;
     let found = downward::nth_below(words, cell, k);
     match found {
-        Selected::At(i) => turns::composed(period, turn, i),
-        Selected::Short(lacking) => turns_back(words, period, turn, cell, k, lacking),
+        Ok(i) => turns::composed(period, turn, i),
+        Err(lacking) => turns_back(words, period, turn, cell, k, lacking),
     }
 }
 
@@ -126,21 +123,21 @@ fn open_from(words: &[u64], period: i64, t: i64, k: i64) -> i64
 }
 
 // The n-th open instant after x, or before x for an n below 0; for 0 it is x, where x is open.
-pub fn nth_of(words: &[u64], period: i64, x: i64, n: i64) -> Found
+pub fn nth_of(words: &[u64], period: i64, x: i64, n: i64) -> Option<i64>
     requires sound { Sound period words.now }
     requires n_value { may_step x n ≡ true }
     ensures { found result ≡ nth_open (up period) (is_open (map_given period words.now)) x n }
 {
     if 0 < n {
-        return Found::At(open_from(words, period, x + 1, n - 1));
+        return Some(open_from(words, period, x + 1, n - 1));
     }
     if n < 0 {
-        return Found::At(open_from(words, period, x, n));
+        return Some(open_from(words, period, x, n));
     }
     if is_open(words, period, x) {
-        Found::At(x)
+        Some(x)
     } else {
-        Found::Nothing
+        None
     }
 }
 

@@ -1,5 +1,6 @@
 -- The checks of an operation before its working row is made.
-use Rattle.std.specs.Prelude.{not, ℕ, leb, pos}
+use Rattle.calendar.specs.declared.Refusal.{Refusal}
+use Rattle.std.specs.Prelude.{not, ℕ, leb, pos, Err, Ok, Result}
 use Rattle.calendar.specs.Meaning.{Row}
 use Rattle.calendar.specs.Operation.{Operation, map_operation}
 use Rattle.calendar.specs.Size.{turn, span}
@@ -9,8 +10,6 @@ use Rattle.calendar.specs.Refusals.{number_of}
 use Rattle.calendar.specs.Reply.{Reply, require}
 use Rattle.calendar.specs.Reply.Reply.{refused, answer}
 use Rattle.operand_checks.specs.declared.Extent.{Extent}
-use Rattle.operand_checks.specs.declared.Checked.{Checked}
-use Rattle.operand_checks.specs.declared.Checked.TheVariants.{Refused, Passed}
 
 -- how far the working row reaches
 abbrev pub extent : Operation Row → Extent
@@ -27,6 +26,6 @@ admission o room =
     (answer (extent o))))))
 
 -- what the checks come to
-abbrev pub checked_reply : Checked → Reply Extent
-checked_reply (Refused x) = refused (number_of x)
-checked_reply (Passed e) = answer e
+abbrev pub checked_reply : Result Extent Refusal → Reply Extent
+checked_reply (Err x) = refused (number_of x)
+checked_reply (Ok e) = answer e

@@ -15,9 +15,8 @@ ghost use Rattle.alter_granules.specs.Given.{altering};
 ghost use Rattle.operand_checks.specs.Admission.{admission, checked_reply};
 ghost use Rattle.operand_checks.specs.Shared.{IsRoom, turn_for, fitted, alter_extent, behind_span};
 
-use super::{Checked, Extent};
+use super::Extent;
 use calendar::Refusal;
-use integers::Capped;
 use kinds::Alteration;
 
 // 8 for the working period, once no granule is emptied: D is at least 1, and at least n.
@@ -29,7 +28,7 @@ fn sized(
     a_distance: i64,
     b_period: i64,
     b_distance: i64,
-) -> Checked
+) -> Result<Extent, Refusal>
     requires limits { Limits by }
     requires room { IsRoom room }
     requires limited { Limited a_period a_distance }
@@ -44,12 +43,12 @@ fn sized(
     let b = super::spanning::turn_of(b_period, b_distance);
     let n = sizes::altering_of(a, b, by.x as u64, by.z, span as u64);
     let working = sizes::alter_period(a, n.fine, room as u64);
-    let Capped::Within(period) = working else {
-        return Checked::Refused(Refusal::TooLong);
+    let Some(period) = working else {
+        return Err(Refusal::TooLong);
     };
     let distance = sizes::alter_distance(a, n.coarse, n.fine);
-    Checked::Passed(Extent {
-        span: span,
+    Ok(Extent {
+        span,
         period: period as i64,
         distance: distance as i64,
     })
@@ -66,7 +65,7 @@ fn aligned(
     b_cells: &[i32],
     b_period: i64,
     b_distance: i64,
-) -> Checked
+) -> Result<Extent, Refusal>
     requires limits { Limits by }
     requires room { IsRoom room }
     requires sound { Sound a_period a_distance a_cells.now }
@@ -79,12 +78,12 @@ fn aligned(
     if !alignment::partitions(
         a_cells, a_period, a_distance, b_cells, b_period, b_distance, span,
     ) {
-        return Checked::Refused(Refusal::NotAligned);
+        return Err(Refusal::NotAligned);
     }
     if alter_granules::emptied(
         by, span, a_cells, a_period, a_distance, b_cells, b_period, b_distance,
     ) {
-        return Checked::Refused(Refusal::GranuleEmptied);
+        return Err(Refusal::GranuleEmptied);
     }
     sized(by, room, span, a_period, a_distance, b_period, b_distance)
 }
@@ -99,7 +98,7 @@ pub fn alter(
     b_cells: &[i32],
     b_period: i64,
     b_distance: i64,
-) -> Checked
+) -> Result<Extent, Refusal>
     requires limits { Limits by }
     requires room { IsRoom room }
     requires sound { Sound a_period a_distance a_cells.now }
@@ -109,8 +108,8 @@ pub fn alter(
     ensures { checked_reply result ≡ admission (altering by (given a_period a_distance a_cells.now) (given b_period b_distance b_cells.now)) (up room) }
 {
     let capped = super::spanning::span_of(room, a_period, a_distance, b_period, b_distance);
-    let Capped::Within(s) = capped else {
-        return Checked::Refused(Refusal::TooLong);
+    let Some(s) = capped else {
+        return Err(Refusal::TooLong);
     };
     aligned(
         by, room, s as i64, a_cells, a_period, a_distance, b_cells, b_period, b_distance,

@@ -8,12 +8,11 @@ ghost use Rattle.operand_checks.specs.Admission.{checked_reply};
 ghost use Rattle.operand_checks.specs.Shared as Shared;
 ghost use Rattle.operand_checks.specs.Shared.{IsRoom, turn_for};
 
-use super::{Checked, Extent};
+use super::Extent;
 use calendar::Refusal;
-use integers::Capped;
 
 // 8 for the span and for the working period, which is no shorter.
-pub fn grouped(x: i64, room: i64, period: i64, distance: i64) -> Checked
+pub fn grouped(x: i64, room: i64, period: i64, distance: i64) -> Result<Extent, Refusal>
     requires pos_bound { pos 1 ≤ℤ x }
     requires room { IsRoom room }
     requires limited { Limited period distance }
@@ -22,11 +21,11 @@ pub fn grouped(x: i64, room: i64, period: i64, distance: i64) -> Checked
     let a = super::spanning::turn_of(period, distance);
     let times = x as u64;
     let working = sizes::group_period(a, times, room as u64);
-    let Capped::Within(p) = working else {
-        return Checked::Refused(Refusal::TooLong);
+    let Some(p) = working else {
+        return Err(Refusal::TooLong);
     };
     let common = integers::gcd(times, a.distance);
-    Checked::Passed(Extent {
+    Ok(Extent {
         span: period,
         period: p as i64,
         distance: (a.distance / common) as i64,

@@ -29,26 +29,19 @@ pub struct Extent {
     pub distance: i64,
 }
 
-// What the checks come to: a refusal, or how far the working row reaches.
-#[derive(Clone, Copy)]
-pub enum Checked {
-    Refused(Refusal),
-    Passed(Extent),
-}
-
 // 8, where span and working period are those of the one operand, or 1.
-fn whole(room: i64, period: i64, distance: i64) -> Checked
+fn whole(room: i64, period: i64, distance: i64) -> Result<Extent, Refusal>
     requires { IsRoom room }
     ensures { checked_reply result ≡ fitted (whole_turn period distance) (up room) }
 {
     if period <= room {
-        Checked::Passed(Extent {
+        Ok(Extent {
             span: period,
-            period: period,
-            distance: distance,
+            period,
+            distance,
         })
     } else {
-        Checked::Refused(Refusal::TooLong)
+        Err(Refusal::TooLong)
     }
 }
 
@@ -62,7 +55,7 @@ pub fn check(
     b_cells: &[i32],
     b_period: i64,
     b_distance: i64,
-) -> Checked
+) -> Result<Extent, Refusal>
     requires numbers { Numbers kind }
     requires sound_first { SoundFirst (operands kind) (given a_period a_distance a_cells.now) (given b_period b_distance b_cells.now) }
     requires b_cells_value { full_operands (operation_of kind (given a_period a_distance a_cells.now) (given b_period b_distance b_cells.now)) ≡ true }

@@ -14,10 +14,9 @@ ghost use Rattle.operand_checks.specs.Shared as Shared;
 ghost use Rattle.alignment.specs.Fits.{alignment_of};
 ghost use Rattle.operand_checks.specs.Shared.{IsRoom, turn_for, over_span};
 
-use super::{Checked, Extent};
+use super::Extent;
 use alignment::Alignment;
 use calendar::Refusal;
-use integers::Capped;
 use sizes::Turn;
 
 // The turn of a row.
@@ -32,7 +31,13 @@ pub fn turn_of(period: i64, distance: i64) -> Turn
 }
 
 // The span of two operands, where it is at most the room.
-pub fn span_of(room: i64, a_period: i64, a_distance: i64, b_period: i64, b_distance: i64) -> Capped
+pub fn span_of(
+    room: i64,
+    a_period: i64,
+    a_distance: i64,
+    b_period: i64,
+    b_distance: i64,
+) -> Option<u64>
     requires room { IsRoom room }
     requires limited { Limited a_period a_distance }
     requires limited_2 { Limited b_period b_distance }
@@ -52,7 +57,7 @@ fn over_span(span: i64, period: i64, distance: i64) -> Extent
     let a = turn_of(period, distance);
     let rise = sizes::rise(a, span as u64);
     Extent {
-        span: span,
+        span,
         period: span,
         distance: rise as i64,
     }
@@ -68,22 +73,22 @@ pub fn spanned(
     b_cells: &[i32],
     b_period: i64,
     b_distance: i64,
-) -> Checked
+) -> Result<Extent, Refusal>
     requires sound { Sound a_period a_distance a_cells.now }
     requires sound_2 { Sound b_period b_distance b_cells.now }
     requires room { IsRoom room }
     ensures { checked_reply result ≡ Shared.spanned (alignment_of k) (given a_period a_distance a_cells.now) (given b_period b_distance b_cells.now) (up room) }
 {
     let capped = span_of(room, a_period, a_distance, b_period, b_distance);
-    let Capped::Within(s) = capped else {
-        return Checked::Refused(Refusal::TooLong);
+    let Some(s) = capped else {
+        return Err(Refusal::TooLong);
     };
     let span = s as i64;
     if alignment::aligned(
         k, span, a_cells, a_period, a_distance, b_cells, b_period, b_distance,
     ) {
-        Checked::Passed(over_span(span, a_period, a_distance))
+        Ok(over_span(span, a_period, a_distance))
     } else {
-        Checked::Refused(Refusal::NotAligned)
+        Err(Refusal::NotAligned)
     }
 }

@@ -1,5 +1,6 @@
 -- The walk over a granule of h for the granules of g that make it up: how it ends.
 -- Assumes nothing.
+use Rattle.std.specs.Prelude.{None, Option, Some}
 use mathlib.Core.Path.{◌≡◌, sym, ◌∙◌, ap, subst}
 use mathlib.Core.Logic.{inl, inr, ⊎_elim}
 use mathlib.Core.Option.{some}
@@ -24,8 +25,6 @@ use Rattle.granules.proofs.Questions.{made_up-iff}
 use Rattle.cursors.specs.declared.Cursor.{Cursor}
 use Rattle.cursors.specs.Cursor.{cursor_at}
 use Rattle.parts.specs.declared.Part.TheVariants.{Broken}
-use Rattle.parts.specs.declared.Walked.{Walked}
-use Rattle.parts.specs.declared.Walked.TheVariants.{Parts, Incomplete}
 use Rattle.containment.specs.First.{FirstInstant}
 use Rattle.parts.specs.Walk.{Nearest, PartAt, EndAt, PartsOf}
 use Rattle.parts.proofs.Shown.{Shows}
@@ -61,11 +60,11 @@ module _ {h g : Row} (v : Valid h) (w : Valid g) {z t : ℤ} (b : FirstInstant h
             (λ (i : u <ℤ s.0). rw (≤ℤ-antisym o (w.ordered q.0 s.0 j k (≤ℤ-trans q.2 (<ℤ→≤ℤ i)) q.3 s.1)) n)
             (le-or-lt s.0 u)
 
-    incomplete : made_up h g z ≡ false → PartsOf h g z p Incomplete
+    incomplete : made_up h g z ≡ false → PartsOf h g z p None
     incomplete e = let n = seen_front in (e, (c.seen, n.0, n.1, c.shows))
 
     -- u' is in the granule and has no label in g, or that of an instant outside; or it is in a gap and in the latest part
-    pub walk-broken : PartAt z (meant h u') (meant g u') o latest Broken → PartsOf h g z p Incomplete
+    pub walk-broken : PartAt z (meant h u') (meant g u') o latest Broken → PartsOf h g z p None
     walk-broken (inl (e, inl f)) = incomplete ((false-iff (made_up-iff h g v w z)).1 (λ m. none≢some (sym f ∙ (m u' e).1)))
     walk-broken (inl (e, inr f)) = incomplete (apart u' c.outer.at o e f c.outer.out c.outer.label)
     walk-broken (inr (e, f)) =
@@ -117,6 +116,6 @@ module _ {h g : Row} (v : Valid h) (w : Valid g) {z t : ℤ} (b : FirstInstant h
             })
             (within-lists g h w v z)
 
-      pub walk-ended : (x : Walked) → EndAt g u' count latest x → PartsOf h g z p x
-      walk-ended (Parts m) (q, (i, l, past)) = (made i l past, (q ∙ c.count-is ∙ ap length (parts i l past), subst (λ (k : List ℤ). Shows p k) (parts i l past) c.shows))
-      walk-ended Incomplete l = incomplete (goes_on l)
+      pub walk-ended : (x : Option ℕ) → EndAt g u' count latest x → PartsOf h g z p x
+      walk-ended (Some m) (q, (i, l, past)) = (made i l past, (q ∙ c.count-is ∙ ap length (parts i l past), subst (λ (k : List ℤ). Shows p k) (parts i l past) c.shows))
+      walk-ended None l = incomplete (goes_on l)

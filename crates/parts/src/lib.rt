@@ -9,7 +9,7 @@ ghost use Rattle.containment.specs.Places.{instant};
 ghost use Rattle.containment.specs.First.{FirstInstant};
 ghost use Rattle.parts.specs.Walk.{Roomy, Nearest, PartAt, EndAt, PartsOf};
 
-use cursors::{Cursor, Found};
+use cursors::Cursor;
 
 // What an instant says of the parts of a granule: none begins there, it is in a gap of the granule and has this label, the next part begins there,
 // the granule is over, or the parts do not make it up.
@@ -22,13 +22,6 @@ enum Part {
     Broken,
 }
 
-// How many parts make up a granule, if any do.
-#[derive(Clone, Copy)]
-pub enum Walked {
-    Parts(usize),
-    Incomplete,
-}
-
 // The label of the nearest instant that has one, from the cursor's, back or on.
 fn nearest_label(back: bool, cells: &[i32], period: i64, distance: i64, from: Cursor) -> i64
     requires sound { Sound period distance cells.now }
@@ -38,7 +31,7 @@ fn nearest_label(back: bool, cells: &[i32], period: i64, distance: i64, from: Cu
     let mut c = from;
     loop {
         let label = cursors::cursor_label(cells, period, distance, c);
-        if let Found::At(j) = label {
+        if let Some(j) = label {
             return j;
         }
         c = cursors::cursor_step(back, cells, period, distance, c);
@@ -54,25 +47,25 @@ fn ended(
     period: i64,
     distance: i64,
     from: Cursor,
-) -> Walked
+) -> Option<usize>
     requires sound { Sound period distance cells.now }
     requires roomy { Roomy (given period distance cells.now) from }
     ensures { EndAt (given period distance cells.now) (instant (given period distance cells.now) from) count latest result }
 {
     let next = nearest_label(false, cells, period, distance, from);
     if next == latest {
-        return Walked::Incomplete;
+        return None;
     }
-    Walked::Parts(count)
+    Some(count)
 }
 
 // What an instant says of the parts of h's granule z, by its label in h, `own`, and in g. The latest part is `latest`, and `outside` is the last
 // label of g that an instant before has outside the granule; before the first part they are the same.
-fn part_at(z: i64, own: Found, label: Found, outside: i64, latest: i64) -> Part
+fn part_at(z: i64, own: Option<i64>, label: Option<i64>, outside: i64, latest: i64) -> Part
     ensures { PartAt z (found own) (found label) outside latest result }
 {
-    let Found::At(j) = own else {
-        let Found::At(k) = label else {
+    let Some(j) = own else {
+        let Some(k) = label else {
             return Part::Nothing;
         };
         if k == latest {
@@ -83,7 +76,7 @@ fn part_at(z: i64, own: Found, label: Found, outside: i64, latest: i64) -> Part
     if j != z {
         return Part::End;
     }
-    let Found::At(k) = label else {
+    let Some(k) = label else {
         return Part::Broken;
     };
     if k == outside {
@@ -108,7 +101,7 @@ pub fn parts_of(
     g_cells: &[i32],
     g_period: i64,
     g_distance: i64,
-) -> Walked
+) -> Option<usize>
     requires sound { Sound h_period h_distance h_cells.now }
     requires sound_2 { Sound g_period g_distance g_cells.now }
     requires first_instant { FirstInstant (given h_period h_distance h_cells.now) z first }
@@ -139,7 +132,7 @@ pub fn parts_of(
             Part::Nothing => {}
             Part::Outside(k) => outside = k,
             Part::End => return ended(count, latest, g_cells, g_period, g_distance, g),
-            Part::Broken => return Walked::Incomplete,
+            Part::Broken => return None,
         }
     }
 }

@@ -28,10 +28,7 @@ pub fn place_on(p: Place, count: usize, period: usize, distance: i64) -> Place
 {
     let cell = p.cell + count;
     if cell < period {
-        Place {
-            cell: cell,
-            rise: p.rise,
-        }
+        Place { cell, rise: p.rise }
     } else {
         Place {
             cell: 0,

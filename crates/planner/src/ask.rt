@@ -1,200 +1,118 @@
 // The questions to an entry: the slot of a day or of a slot, the n-th open day and how many there are between two.
 
-use crate::arguments::{Entry, Number, Row, When, cells_of};
+use crate::arguments::{entry_at, number_at, when_at};
+use crate::refusals;
+use crate::row::Row;
 use crate::show::print_when;
-use crate::{arguments, refusals};
-use open_map::OpenNumber;
-use open_steps::OpenStep;
-use printing::{print, print_number};
-use questions::{Placing, Up};
+use printing::print;
 use std::io;
 use std::rt::Env;
 
-fn print_step(rt: &(impl Print + Eprint), step: OpenStep, dated: bool) -> io::Result<()> {
-    match step {
-        OpenStep::At(t) => print_when(rt, t, dated),
-        OpenStep::Nothing => print(rt, b"closed"),
-        OpenStep::Refused(refusal) => {
-            refusals::tell(rt, refusal.number());
-            Ok(())
-        }
+// The open instant so many on or back from a closed one.
+fn print_step(rt: &(impl Print + Eprint), row: Row, t: i64, n: i64, dated: bool) -> io::Result<()> {
+    match refusals::answered(rt, row.nth_open(t, n)) {
+        Some(Some(open)) => print_when(rt, open, dated),
+        Some(None) => print(rt, b"closed"),
+        None => Ok(()),
     }
 }
 
 // What a closed instant has beside it.
-fn print_closed(
-    rt: &(impl Print + Eprint),
-    t: i64,
-    dated: bool,
-    pool: &[i32],
-    row: Row,
-) -> io::Result<()> {
-    let period = row.period as i64;
-    let distance = row.distance as i64;
+fn print_closed(rt: &(impl Print + Eprint), t: i64, dated: bool, row: Row) -> io::Result<()> {
     print_when(rt, t, dated)?;
     print(rt, b": closed; last open ")?;
-    print_step(
-        rt,
-        open_row::nth_open(t, -1, cells_of(pool, row), period, distance),
-        dated,
-    )?;
+    print_step(rt, row, t, -1, dated)?;
     print(rt, b", next open ")?;
-    print_step(
-        rt,
-        open_row::nth_open(t, 1, cells_of(pool, row), period, distance),
-        dated,
-    )?;
-    print(rt, b"\n")
-}
-
-fn print_open(rt: &impl Print, t: i64, dated: bool, label: i64, place: u64) -> io::Result<()> {
-    print_when(rt, t, dated)?;
-    print(rt, b": slot ")?;
-    print_number(rt, label)?;
-    print(rt, b", place ")?;
-    rt.print(place)?;
+    print_step(rt, row, t, 1, dated)?;
     print(rt, b"\n")
 }
 
 // The slot of an instant.
-fn up_instant(rt: &(impl Env + Print + Eprint), row: Row, pool: &[i32]) -> io::Result<()> {
-    let When::Is(t, dated) = arguments::when_at(rt, 3) else {
+fn up_instant(rt: &(impl Env + Print + Eprint), row: Row) -> io::Result<()> {
+    let Some((t, dated)) = when_at(rt, 3) else {
         return Ok(());
     };
-    let placing = questions::up_instant(
-        t,
-        cells_of(pool, row),
-        row.period as i64,
-        row.distance as i64,
-    );
-    match placing {
-        Placing::At(label, place) => print_open(rt, t, dated, label, place),
-        Placing::Nothing => print_closed(rt, t, dated, pool, row),
-        Placing::Refused(refusal) => {
-            refusals::tell(rt, refusal.number());
-            Ok(())
+    match refusals::answered(rt, row.up_instant(t)) {
+        Some(Some((label, place))) => {
+            print_when(rt, t, dated)?;
+            print!(rt; ": slot {label}, place {place}\n")
         }
+        Some(None) => print_closed(rt, t, dated, row),
+        None => Ok(()),
     }
 }
 
-fn print_up(rt: &(impl Print + Eprint), up: Up) -> io::Result<()> {
-    match up {
-        Up::Label(label) => {
-            print(rt, b"slot ")?;
-            print_number(rt, label)?;
-            print(rt, b"\n")
-        }
-        Up::Nothing => print(rt, b"no slot holds all of it\n"),
-        Up::Refused(refusal) => {
-            refusals::tell(rt, refusal.number());
-            Ok(())
-        }
-    }
+// The slot of another entry that holds a slot, as asked.
+fn asked_up(
+    rt: &(impl Env + Eprint),
+    row: Row,
+    headings: &[u32],
+    pool: &[i32],
+) -> Option<Option<i64>> {
+    let label = number_at(rt, 3)?;
+    let of = entry_at(rt, 4, headings, pool)?;
+    refusals::answered(rt, row.up_granule(label, of))
 }
 
-// The slot of another entry that holds a slot.
 fn up_slot(
     rt: &(impl Env + Print + Eprint),
     row: Row,
     headings: &[u32],
     pool: &[i32],
 ) -> io::Result<()> {
-    let Number::Is(label) = arguments::number_at(rt, 3) else {
-        return Ok(());
-    };
-    let Entry::Is(of) = arguments::entry_at(rt, 4, headings) else {
-        return Ok(());
-    };
-    let up = questions::up_granule(
-        label,
-        cells_of(pool, row),
-        row.period as i64,
-        row.distance as i64,
-        cells_of(pool, of),
-        of.period as i64,
-        of.distance as i64,
-    );
-    print_up(rt, up)
+    match asked_up(rt, row, headings, pool) {
+        Some(Some(label)) => print!(rt; "slot {label}\n"),
+        Some(None) => print(rt, b"no slot holds all of it\n"),
+        None => Ok(()),
+    }
 }
 
 pub fn up(rt: &(impl Env + Print + Eprint), headings: &[u32], pool: &[i32]) -> io::Result<()> {
-    let Entry::Is(row) = arguments::entry_at(rt, 2, headings) else {
+    let Some(row) = entry_at(rt, 2, headings, pool) else {
         return Ok(());
     };
-    if arguments::given(rt, 4) {
+    if programs::is_given(rt, 4) {
         up_slot(rt, row, headings, pool)
     } else {
-        up_instant(rt, row, pool)
+        up_instant(rt, row)
     }
 }
 
-fn print_nth(rt: &(impl Print + Eprint), step: OpenStep, dated: bool) -> io::Result<()> {
-    match step {
-        OpenStep::At(t) => {
+// So many open instants on or back, as asked, and whether the answer is to be dated.
+fn asked_nth(
+    rt: &(impl Env + Eprint),
+    headings: &[u32],
+    pool: &[i32],
+) -> Option<(Option<i64>, bool)> {
+    let row = entry_at(rt, 2, headings, pool)?;
+    let (t, dated) = when_at(rt, 3)?;
+    let n = number_at(rt, 4)?;
+    let step = refusals::answered(rt, row.nth_open(t, n))?;
+    Some((step, dated))
+}
+
+pub fn nth(rt: &(impl Env + Print + Eprint), headings: &[u32], pool: &[i32]) -> io::Result<()> {
+    match asked_nth(rt, headings, pool) {
+        Some((Some(t), dated)) => {
             print_when(rt, t, dated)?;
             print(rt, b"\n")
         }
-        OpenStep::Nothing => print(rt, b"closed\n"),
-        OpenStep::Refused(refusal) => {
-            refusals::tell(rt, refusal.number());
-            Ok(())
-        }
+        Some((None, _)) => print(rt, b"closed\n"),
+        None => Ok(()),
     }
 }
 
-// So many open instants on or back.
-pub fn nth(rt: &(impl Env + Print + Eprint), headings: &[u32], pool: &[i32]) -> io::Result<()> {
-    let Entry::Is(row) = arguments::entry_at(rt, 2, headings) else {
-        return Ok(());
-    };
-    let When::Is(t, dated) = arguments::when_at(rt, 3) else {
-        return Ok(());
-    };
-    let Number::Is(n) = arguments::number_at(rt, 4) else {
-        return Ok(());
-    };
-    let step = open_row::nth_open(
-        t,
-        n,
-        cells_of(pool, row),
-        row.period as i64,
-        row.distance as i64,
-    );
-    print_nth(rt, step, dated)
+// How many open instants there are between two, as asked.
+fn asked_between(rt: &(impl Env + Eprint), headings: &[u32], pool: &[i32]) -> Option<i64> {
+    let row = entry_at(rt, 2, headings, pool)?;
+    let (from, _) = when_at(rt, 3)?;
+    let (to, _) = when_at(rt, 4)?;
+    refusals::answered(rt, row.between(from, to))
 }
 
-fn print_between(rt: &(impl Print + Eprint), number: OpenNumber) -> io::Result<()> {
-    match number {
-        OpenNumber::Is(n) => {
-            print_number(rt, n)?;
-            print(rt, b"\n")
-        }
-        OpenNumber::Refused(refusal) => {
-            refusals::tell(rt, refusal.number());
-            Ok(())
-        }
-    }
-}
-
-// How many open instants there are between two.
 pub fn between(rt: &(impl Env + Print + Eprint), headings: &[u32], pool: &[i32]) -> io::Result<()> {
-    let Entry::Is(row) = arguments::entry_at(rt, 2, headings) else {
-        return Ok(());
-    };
-    let When::Is(from, _) = arguments::when_at(rt, 3) else {
-        return Ok(());
-    };
-    let When::Is(to, _) = arguments::when_at(rt, 4) else {
-        return Ok(());
-    };
-    print_between(
-        rt,
-        open_row::between(
-            from,
-            to,
-            cells_of(pool, row),
-            row.period as i64,
-            row.distance as i64,
-        ),
-    )
+    match asked_between(rt, headings, pool) {
+        Some(n) => print!(rt; "{n}\n"),
+        None => Ok(()),
+    }
 }

@@ -1,66 +1,35 @@
 // The slots of one entry that make up a slot of another.
 
-use crate::arguments::{Entry, Number, Row, cells_of};
-use crate::{arguments, refusals};
-use printing::{print, print_number};
-use questions::down::Parted;
+use crate::arguments::{entry_at, number_at};
+use crate::refusals;
+use printing::print;
 use std::io;
 use std::rt::Env;
 
 // How many parts a slot may have here.
 const PARTS: usize = 65536;
 
-fn print_parts(rt: &impl Print, parts: &[i64], n: usize) -> io::Result<()> {
-    let mut i = 0;
-    while i < n {
-        if i < parts.len() {
-            print(rt, b" ")?;
-            print_number(rt, parts[i])?;
-        }
-        i += 1;
-    }
-    print(rt, b"\n")
-}
-
-fn print_down(
-    rt: &(impl Print + Eprint),
-    label: i64,
-    row: Row,
-    of: Row,
+// How many parts a slot has, as asked; `parts` is left with them.
+fn asked(
+    rt: &(impl Env + Eprint),
+    headings: &[u32],
     pool: &[i32],
-) -> io::Result<()> {
-    let mut parts = [0i64; PARTS];
-    let parted = questions::down::down(
-        label,
-        &mut parts,
-        cells_of(pool, row),
-        row.period as i64,
-        row.distance as i64,
-        cells_of(pool, of),
-        of.period as i64,
-        of.distance as i64,
-    );
-    match parted {
-        Parted::Parts(n) => {
-            print(rt, b"slots")?;
-            print_parts(rt, &parts, n)
-        }
-        Parted::Refused(refusal) => {
-            refusals::tell(rt, refusal.number());
-            Ok(())
-        }
-    }
+    parts: &mut [i64],
+) -> Option<usize> {
+    let row = entry_at(rt, 2, headings, pool)?;
+    let label = number_at(rt, 3)?;
+    let of = entry_at(rt, 4, headings, pool)?;
+    refusals::answered(rt, row.down(label, parts, of))
 }
 
 pub fn run(rt: &(impl Env + Print + Eprint), headings: &[u32], pool: &[i32]) -> io::Result<()> {
-    let Entry::Is(row) = arguments::entry_at(rt, 2, headings) else {
+    let mut parts = [0i64; PARTS];
+    let Some(n) = asked(rt, headings, pool, &mut parts) else {
         return Ok(());
     };
-    let Number::Is(label) = arguments::number_at(rt, 3) else {
-        return Ok(());
-    };
-    let Entry::Is(of) = arguments::entry_at(rt, 4, headings) else {
-        return Ok(());
-    };
-    print_down(rt, label, row, of, pool)
+    print(rt, b"slots")?;
+    for part in parts.iter().take(n) {
+        print!(rt; " {part}")?;
+    }
+    print(rt, b"\n")
 }

@@ -10,5 +10,6 @@ pub mod late;
 pub mod month;
 pub mod picture;
 pub mod refusals;
+pub mod row;
 pub mod show;
 pub mod year;

@@ -1,13 +1,12 @@
 // A month of an entry as a wall calendar: a line for each week, each day with the label of its slot, and "." for a
 // closed day. Where labels are too wide for that, the days of a week stand in one line and their labels in the next.
 
-use crate::arguments::{Entry, Number, Row, cells_of};
-use crate::show::{print_blanks, print_right, print_share, width_of};
+use crate::arguments::{entry_at, number_at};
+use crate::row::Row;
+use crate::show::{print_share, width_of};
 use crate::year::Month;
-use crate::{arguments, refusals, year};
-use dates::Instant;
-use printing::{print, print_number};
-use questions::Placing;
+use crate::{refusals, year};
+use printing::print;
 use std::io;
 use std::rt::Env;
 
@@ -21,65 +20,35 @@ const HALVES: u32 = 84;
 const WIDE: usize = 6;
 
 // The width of the label of a day; 1 for ".".
-fn label_width(m: Month, day: u32, cells: &[i32], period: i64, distance: i64) -> usize {
-    let t = year::instant_of(m.year, m.month, day);
-    let placing = questions::up_instant(t, cells, period, distance);
-    match placing {
-        Placing::At(label, _) => width_of(label),
-        Placing::Nothing => 1,
-        Placing::Refused(_) => 1,
+fn label_width(m: Month, day: u32, row: Row) -> usize {
+    match row.up_instant(year::instant_of(m.year, m.month, day)) {
+        Ok(Some((label, _))) => width_of(label),
+        _ => 1,
     }
 }
 
 // The width of the widest label of a month.
-fn widest(m: Month, cells: &[i32], period: i64, distance: i64) -> usize {
+fn widest(m: Month, row: Row) -> usize {
     let mut width = 1;
     for i in 0..PLACES {
-        let n = label_width(m, year::day_at(m, i), cells, period, distance);
-        if width < n {
-            width = n;
-        }
+        width = width.max(label_width(m, year::day_at(m, i), row));
     }
     width
 }
 
-fn print_weekday(rt: &impl Print, name: &[u8], gap: usize) -> io::Result<()> {
-    print_blanks(rt, gap)?;
-    print(rt, name)
-}
-
-fn print_weekdays(rt: &impl Print, gap: usize) -> io::Result<()> {
-    print_weekday(rt, b"Mo", gap)?;
-    print_weekday(rt, b"Tu", gap)?;
-    print_weekday(rt, b"We", gap)?;
-    print_weekday(rt, b"Th", gap)?;
-    print_weekday(rt, b"Fr", gap)?;
-    print_weekday(rt, b"Sa", gap)?;
-    print_weekday(rt, b"Su", gap)
+fn print_weekdays(rt: &impl Print, width: usize) -> io::Result<()> {
+    for name in ["Mo", "Tu", "We", "Th", "Fr", "Sa", "Su"] {
+        print!(rt; "{name:>width$}")?;
+    }
+    Ok(())
 }
 
 // The label of an instant, or ".", that ends so many bytes behind.
-fn print_label(
-    rt: &(impl Print + Eprint),
-    t: i64,
-    width: usize,
-    cells: &[i32],
-    period: i64,
-    distance: i64,
-) -> io::Result<()> {
-    let placing = questions::up_instant(t, cells, period, distance);
-    match placing {
-        Placing::At(label, _) => print_right(rt, label, width),
-        Placing::Nothing => {
-            if 1 <= width {
-                print_blanks(rt, width - 1)?;
-            }
-            print(rt, b".")
-        }
-        Placing::Refused(refusal) => {
-            refusals::tell(rt, refusal.number());
-            Ok(())
-        }
+fn print_label(rt: &(impl Print + Eprint), t: i64, width: usize, row: Row) -> io::Result<()> {
+    match refusals::answered(rt, row.up_instant(t)) {
+        Some(Some((label, _))) => print!(rt; "{label:width$}"),
+        Some(None) => print!(rt; "{:>width$}", "."),
+        None => Ok(()),
     }
 }
 
@@ -89,9 +58,7 @@ fn print_place(
     m: Month,
     i: u32,
     width: usize,
-    cells: &[i32],
-    period: i64,
-    distance: i64,
+    row: Row,
 ) -> io::Result<()> {
     if year::is_behind(m, i) {
         return Ok(());
@@ -101,34 +68,10 @@ fn print_place(
     }
     let day = year::day_at(m, i);
     if day == 0 {
-        print_blanks(rt, 5)?;
-        print_blanks(rt, width)?;
-        return Ok(());
+        return print!(rt; "     {:width$}", "");
     }
-    print_right(rt, day as i64, 4)?;
-    print(rt, b" ")?;
-    print_label(
-        rt,
-        year::instant_of(m.year, m.month, day),
-        width,
-        cells,
-        period,
-        distance,
-    )
-}
-
-fn print_weeks(
-    rt: &(impl Print + Eprint),
-    m: Month,
-    width: usize,
-    cells: &[i32],
-    period: i64,
-    distance: i64,
-) -> io::Result<()> {
-    for i in 0..PLACES {
-        print_place(rt, m, i, width, cells, period, distance)?;
-    }
-    Ok(())
+    print!(rt; "{day:4} ")?;
+    print_label(rt, year::instant_of(m.year, m.month, day), width, row)
 }
 
 // What stands in place j where each week has a line of days and a line of labels.
@@ -137,9 +80,7 @@ fn print_half(
     m: Month,
     j: u32,
     width: usize,
-    cells: &[i32],
-    period: i64,
-    distance: i64,
+    row: Row,
 ) -> io::Result<()> {
     let i = j / 14 * 7 + j % 7;
     if year::is_behind(m, i) {
@@ -151,103 +92,57 @@ fn print_half(
     print(rt, b" ")?;
     let day = year::day_at(m, i);
     if day == 0 {
-        print_blanks(rt, width)
+        print!(rt; "{:width$}", "")
     } else if j % 14 < 7 {
-        print_right(rt, day as i64, width)
+        print!(rt; "{day:width$}")
     } else {
-        let t = year::instant_of(m.year, m.month, day);
-        print_label(rt, t, width, cells, period, distance)
+        print_label(rt, year::instant_of(m.year, m.month, day), width, row)
     }
 }
 
-fn print_halves(
-    rt: &(impl Print + Eprint),
-    m: Month,
-    width: usize,
-    cells: &[i32],
-    period: i64,
-    distance: i64,
-) -> io::Result<()> {
-    for j in 0..HALVES {
-        print_half(rt, m, j, width, cells, period, distance)?;
+// The weeks, with the names of the days above.
+fn print_body(rt: &(impl Print + Eprint), m: Month, width: usize, row: Row) -> io::Result<()> {
+    if width <= WIDE {
+        print_weekdays(rt, width + 5)?;
+        for i in 0..PLACES {
+            print_place(rt, m, i, width, row)?;
+        }
+    } else {
+        print_weekdays(rt, width.saturating_add(1))?;
+        for j in 0..HALVES {
+            print_half(rt, m, j, width, row)?;
+        }
     }
     Ok(())
 }
 
-// The weeks, with the names of the days above.
-fn print_body(
-    rt: &(impl Print + Eprint),
-    m: Month,
-    width: usize,
-    cells: &[i32],
-    period: i64,
-    distance: i64,
-) -> io::Result<()> {
-    if width <= WIDE {
-        print_weekdays(rt, width + 3)?;
-        print_weeks(rt, m, width, cells, period, distance)
-    } else {
-        print_weekdays(rt, width - 1)?;
-        print_halves(rt, m, width, cells, period, distance)
-    }
-}
-
-fn print_month(
-    rt: &(impl Print + Eprint),
-    m: Month,
-    cells: &[i32],
-    period: i64,
-    distance: i64,
-) -> io::Result<()> {
+fn print_month(rt: &(impl Print + Eprint), m: Month, row: Row) -> io::Result<()> {
     year::print_name(rt, m.month)?;
-    print(rt, b" ")?;
-    print_number(rt, m.year)?;
-    print(rt, b"\n\n")?;
-    let width = widest(m, cells, period, distance);
-    print_body(rt, m, width, cells, period, distance)?;
+    print!(rt; " {}\n\n", m.year)?;
+    print_body(rt, m, widest(m, row), row)?;
     print(rt, b"\n\n")?;
     let first = year::instant_of(m.year, m.month, 1);
     let last = year::instant_of(m.year, m.month, m.last);
-    print_share(
-        rt,
-        year::open_days(first, last, cells, period, distance),
-        m.last as u64,
-    )?;
+    print_share(rt, year::open_days(first, last, row), u64::from(m.last))?;
     print(rt, b"\n")
 }
 
-fn print_asked(
-    rt: &(impl Print + Eprint),
-    year: i64,
-    month: i64,
-    row: Row,
-    pool: &[i32],
-) -> io::Result<()> {
-    let instant = year::first_of(year, month, month, 28);
-    match instant {
-        Instant::At(t) => print_month(
-            rt,
-            year::month_from(year, month, t),
-            cells_of(pool, row),
-            row.period as i64,
-            row.distance as i64,
-        ),
-        Instant::Refused(refusal) => {
-            refusals::tell(rt, refusal.number());
-            Ok(())
-        }
-    }
+// The month and the entry, as asked; all of the month is within the limits.
+fn asked<'a>(
+    rt: &(impl Env + Eprint),
+    headings: &[u32],
+    pool: &'a [i32],
+) -> Option<(Month, Row<'a>)> {
+    let year = number_at(rt, 2)?;
+    let month = number_at(rt, 3)?;
+    let row = entry_at(rt, 4, headings, pool)?;
+    let first = refusals::answered(rt, year::first_of(year, month, month, 28))?;
+    Some((year::month_from(year, month, first), row))
 }
 
 pub fn run(rt: &(impl Env + Print + Eprint), headings: &[u32], pool: &[i32]) -> io::Result<()> {
-    let Number::Is(year) = arguments::number_at(rt, 2) else {
-        return Ok(());
-    };
-    let Number::Is(month) = arguments::number_at(rt, 3) else {
-        return Ok(());
-    };
-    let Entry::Is(row) = arguments::entry_at(rt, 4, headings) else {
-        return Ok(());
-    };
-    print_asked(rt, year, month, row, pool)
+    match asked(rt, headings, pool) {
+        Some((m, row)) => print_month(rt, m, row),
+        None => Ok(()),
+    }
 }

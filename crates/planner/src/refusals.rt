@@ -1,5 +1,7 @@
 // A refusal by its number, with a sentence that says what to do, on standard error.
 
+use calendar::Refusal;
+
 // A sentence that standard error does not take is lost.
 fn say(rt: &impl Eprint, sentence: &str) {
     let _ = rt.eprint(sentence);
@@ -79,19 +81,24 @@ fn advise_on_question(rt: &impl Eprint, number: u32) {
 
 // What to do about a refusal.
 pub fn advise(rt: &impl Eprint, number: u32) {
-    if number < 13 {
-        advise_on_table(rt, number);
-    } else if number == 19 {
+    if number < 13 || number == 19 {
         advise_on_table(rt, number);
     } else {
         advise_on_question(rt, number);
     }
 }
 
-// Tells a refusal, and what to do.
-pub fn tell(rt: &impl Eprint, number: u32) {
-    let _ = eprint!(rt; "refused {number}: ");
-    advise(rt, number);
+// What a question is answered. A refusal is told, with what to do.
+pub(crate) fn answered<T: Drop>(rt: &impl Eprint, answer: Result<T, Refusal>) -> Option<T> {
+    match answer {
+        Ok(value) => Some(value),
+        Err(refusal) => {
+            let number = refusal.number();
+            let _ = eprint!(rt; "refused {number}: ");
+            advise(rt, number);
+            None
+        }
+    }
 }
 
 // Tells the refusal of an entry or a line, and what to do.

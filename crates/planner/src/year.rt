@@ -1,8 +1,7 @@
 // A month among the weeks: which day stands in which place, Monday first.
 
-use crate::arguments::natural;
-use dates::Instant;
-use open_map::OpenNumber;
+use crate::row::Row;
+use calendar::Refusal;
 use printing::print;
 use std::io;
 
@@ -16,29 +15,18 @@ pub struct Month {
 }
 
 fn exists(year: i64, month: i64, day: i64) -> bool {
-    let instant = dates::instant_of(year, month, day);
-    match instant {
-        Instant::At(_) => true,
-        Instant::Refused(_) => false,
-    }
+    dates::instant_of(year, month, day).is_ok()
 }
 
 // The instant of a date; 0 where there is no such date.
 pub fn instant_of(year: i64, month: i64, day: u32) -> i64 {
-    let instant = dates::instant_of(year, month, day as i64);
-    match instant {
-        Instant::At(t) => t,
-        Instant::Refused(_) => 0,
-    }
+    dates::instant_of(year, month, i64::from(day)).unwrap_or(0)
 }
 
 // The first instant of the month `from`, where the given day of the month `to` is within the limits too.
-pub fn first_of(year: i64, from: i64, to: i64, day: i64) -> Instant {
-    let last = dates::instant_of(year, to, day);
-    match last {
-        Instant::At(_) => dates::instant_of(year, from, 1),
-        Instant::Refused(refusal) => Instant::Refused(refusal),
-    }
+pub fn first_of(year: i64, from: i64, to: i64, day: i64) -> Result<i64, Refusal> {
+    dates::instant_of(year, to, day)?;
+    dates::instant_of(year, from, 1)
 }
 
 // The last day of a month.
@@ -84,35 +72,23 @@ pub fn month_from(year: i64, month: i64, t: i64) -> Month {
 
 // Whether place i, counted from the first Monday's column on, is behind the month's last day.
 pub fn is_behind(m: Month, i: u32) -> bool {
-    if i < m.first {
-        return false;
-    }
-    m.last <= i - m.first
+    m.first <= i && m.last <= i - m.first
 }
 
 // The day in place i, or 0 where there is none.
 pub fn day_at(m: Month, i: u32) -> u32 {
-    if i < m.first {
-        return 0;
-    }
-    if i - m.first < m.last {
+    if m.first <= i && i - m.first < m.last {
         i - m.first + 1
     } else {
         0
     }
 }
 
-// The instant before.
-fn before(t: i64) -> i64 {
-    if -2000000000 < t { t - 1 } else { t }
-}
-
 // How many instants from `first` to `last` are open.
-pub fn open_days(first: i64, last: i64, cells: &[i32], period: i64, distance: i64) -> u64 {
-    let number = open_row::between(before(first), last, cells, period, distance);
-    match number {
-        OpenNumber::Is(n) => natural(n),
-        OpenNumber::Refused(_) => 0,
+pub fn open_days(first: i64, last: i64, row: Row) -> u64 {
+    match row.between(first.saturating_sub(1), last) {
+        Ok(n) => u64::try_from(n).unwrap_or(0),
+        Err(_) => 0,
     }
 }
 

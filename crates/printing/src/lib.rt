@@ -9,17 +9,9 @@ pub fn print(rt: &impl Print, text: &[u8]) -> io::Result<()> {
     rt.write_all(text)
 }
 
-// |v|. Of a negative v, -1 - v fits where -v may not.
-pub fn magnitude(v: i64) -> u64 {
-    if v < 0 { (-1 - v) as u64 + 1 } else { v as u64 }
-}
-
 // v in decimal.
 pub fn print_number(rt: &impl Print, v: i64) -> io::Result<()> {
-    if v < 0 {
-        print(rt, b"-")?;
-    }
-    rt.print(magnitude(v))
+    rt.print(v)
 }
 
 pub fn print_count(rt: &impl Print, n: usize) -> io::Result<()> {
@@ -27,7 +19,7 @@ pub fn print_count(rt: &impl Print, n: usize) -> io::Result<()> {
 }
 
 pub fn moved(label: i32, down: u32, up: u32) -> i64 {
-    label as i64 - down as i64 + up as i64
+    i64::from(label) - i64::from(down) + i64::from(up)
 }
 
 // A cell of a row, with its label moved down and up; "." for no label.
@@ -41,13 +33,9 @@ fn print_cell(rt: &impl Print, cell: i32, down: u32, up: u32) -> io::Result<()> 
 
 // The first n cells, with each label moved down and up.
 pub fn print_turn(rt: &impl Print, cells: &[i32], n: usize, down: u32, up: u32) -> io::Result<()> {
-    let mut i = 0;
-    while i < n {
-        if i < cells.len() {
-            print(rt, b" ")?;
-            print_cell(rt, cells[i], down, up)?;
-        }
-        i += 1;
+    for &cell in cells.iter().take(n) {
+        print(rt, b" ")?;
+        print_cell(rt, cell, down, up)?;
     }
     Ok(())
 }

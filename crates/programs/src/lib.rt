@@ -13,29 +13,18 @@ use std::rt::Env;
 pub fn argument(rt: &impl Env, i: usize, word: &mut [u8]) -> usize
     ensures { result ≤ length word.new }
 {
-    match rt.arg(i, word) {
-        Ok(n) => n,
-        Err(_) => 0,
-    }
+    rt.arg(i, word).unwrap_or(0)
 }
 
 // Whether the argument i is there.
 pub fn is_given(rt: &impl Env, i: usize) -> bool {
     let mut first = [0u8; 1];
-    match rt.arg(i, &mut first) {
-        Err(FillError::NotPresent) => false,
-        _ => true,
-    }
+    !matches!(rt.arg(i, &mut first), Err(FillError::NotPresent))
 }
 
 // How many arguments there are, the program's own name among them; `most` where there are more.
 pub fn argument_count(rt: &impl Env, most: usize) -> usize {
-    for i in 0..most {
-        if !is_given(rt, i) {
-            return i;
-        }
-    }
-    most
+    (0..most).find(|&i| !is_given(rt, i)).unwrap_or(most)
 }
 
 // Reads until the list is full or the input ends: how many bytes came.
@@ -59,10 +48,7 @@ pub fn tell_failure(rt: &(impl Eprint + Alloc), what: &str, error: io::Error) {
         return;
     };
     let told = told.as_str();
-    let reason = match told.split_once(" (os error ") {
-        Some((reason, _)) => reason,
-        None => told,
-    };
+    let (reason, _) = told.split_once(" (os error ").unwrap_or((told, ""));
     let _ = eprint!(rt; "{what}: {reason}\n");
 }
 
@@ -79,10 +65,10 @@ fn path_length(rt: &impl Env, i: usize, bytes: &mut [u8]) -> io::Result<usize>
 
 // Bytes that name a file; refused where they are no text in UTF-8.
 pub fn path_of(bytes: &[u8]) -> io::Result<&str> {
-    match str::from_utf8(bytes) {
-        Ok(path) => Ok(path),
-        Err(_) => Err(io::Error::new(io::ErrorKind::InvalidInput, "the name is no text in UTF-8")),
-    }
+    str::from_utf8(bytes).map_err(|_| io::Error::new(
+        io::ErrorKind::InvalidInput,
+        "the name is no text in UTF-8",
+    ))
 }
 
 // The argument i as the name of a file, which is kept in `bytes`. Where it is none, that is told of `what`.

@@ -1,6 +1,5 @@
 -- The laws that the questions rest on.
 --     Casts        numbers that are cast
---     Cleared      a list that is made zero
 --     Checks       the reply of `down`, check by check
 --     Lateness     lateness: when each reply is given
 --     Placed       up from an instant: how large a place is
@@ -8,7 +7,6 @@
 --     WithGranules figures: when each answer is given
 --     Examples     lateness on a granule with a gap, and figures of a row that isn't least
 pub mod Casts
-pub mod Cleared
 pub mod Checks
 pub mod Lateness
 pub mod Placed

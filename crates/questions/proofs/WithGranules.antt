@@ -1,5 +1,6 @@
 -- The figures of a row that is handed in with its R: when each answer is given.
 -- Assumes nothing.
+use Rattle.std.specs.Prelude.{Err, Ok}
 use mathlib.Core.Path.{◌≡◌, sym, ap, subst}
 use mathlib.Core.Logic.Iff
 use mathlib.Core.Logic.{◌↔◌}
@@ -17,7 +18,6 @@ use Rattle.floats.specs.Figures.{Quotients}
 use Rattle.floats.specs.declared.Figures.{Figures}
 use Rattle.granules.proofs.Tests.{both_iff, false-iff, equal-iff}
 use Rattle.questions.specs.Answers.{FiguresOf}
-use Rattle.questions.specs.declared.Figured.TheVariants.{Are, Refused}
 
 -- the row is sound, and R is right
 pub sound-with : (r : Row) (n : ℤ) → (sound_with r n ≡ true) ↔ ((sound r ≡ true) × (n ≡ pos (granules r)))
@@ -25,12 +25,12 @@ unfolding sound_with
 sound-with r n = both_iff Iff.rfl (equal-iff n (pos (granules r)))
 
 -- refusal 13, and no other
-pub figures-13 : (r : Row) (n : ℤ) (x : Refusal) → FiguresOf r n (Refused x)
+pub figures-13 : (r : Row) (n : ℤ) (x : Refusal) → FiguresOf r n (Err x)
     ↔ ((¬ ((sound r ≡ true) × (n ≡ pos (granules r)))) × (number_of x ≡ 13))
 figures-13 r n x = Iff.and (false-iff (sound-with r n)) Iff.rfl
 
 -- the quotients of the row's own counts
-pub figures-answer : (r : Row) (n : ℤ) (v : Figures) → FiguresOf r n (Are v)
+pub figures-answer : (r : Row) (n : ℤ) (v : Figures) → FiguresOf r n (Ok v)
     ↔ (((sound r ≡ true) × (n ≡ pos (granules r))) × Quotients (labelled_instants r) r.period (granules r) v)
 figures-answer r n v = (
   λ f. let h = (sound-with r n).0 f.0 in (h, subst Q (ap up h.1) f.1),

@@ -14,26 +14,29 @@ ghost use Rattle.floats.specs.Allowance as F;
 ghost use Rattle.cursors.specs.Found.{Sound, Within, Labelled};
 ghost use Rattle.questions.specs.Answers.{placed_reply, up_reply, late_reply, may_be_late};
 
-use super::{Late, Placing, Up};
 use calendar::{Calendar, LATE_LIMIT, Refusal};
-use cursors::Found;
 use floats::Allowance;
 
 // The label of the instant t and its place in that slot, or none. Refuses 14. Costs a walk over the slot up to t.
-pub fn up_instant(t: i64, cells: &[i32], period: i64, distance: i64) -> Placing
+pub fn up_instant(
+    t: i64,
+    cells: &[i32],
+    period: i64,
+    distance: i64,
+) -> Result<Option<(i64, u64)>, Refusal>
     requires { Sound period distance cells.now }
     ensures { placed_reply result ≡ up_from_instant (given period distance cells.now) t }
 {
     if !Calendar::in_range(t) {
-        return Placing::Refused(Refusal::ArgumentOutsideLimits);
+        return Err(Refusal::ArgumentOutsideLimits);
     }
     let label = cursors::label_at(cells, period, distance, t);
     match label {
-        Found::At(j) => {
+        Some(j) => {
             let place = granule_ends::place(cells, period, distance, t);
-            Placing::At(j, place)
+            Ok(Some((j, place)))
         }
-        Found::Nothing => Placing::Nothing,
+        None => Ok(None),
     }
 }
 
@@ -47,25 +50,22 @@ pub fn up_granule(
     h_cells: &[i32],
     h_period: i64,
     h_distance: i64,
-) -> Up
+) -> Result<Option<i64>, Refusal>
     requires sound { Sound g_period g_distance g_cells.now }
     requires sound_2 { Sound h_period h_distance h_cells.now }
     ensures { up_reply result ≡ up_from_granule (given g_period g_distance g_cells.now) (given h_period h_distance h_cells.now) z }
 {
     if !Calendar::in_range(z) {
-        return Up::Refused(Refusal::ArgumentOutsideLimits);
+        return Err(Refusal::ArgumentOutsideLimits);
     }
     let at = row_check::instant_of(g_cells, g_period, g_distance, z);
-    let Found::At(t) = at else {
-        return Up::Refused(Refusal::NotALabel);
+    let Some(t) = at else {
+        return Err(Refusal::NotALabel);
     };
     let label = containment::holder(
         g_cells, g_period, g_distance, h_cells, h_period, h_distance, t,
     );
-    match label {
-        Found::At(j) => Up::Label(j),
-        Found::Nothing => Up::Nothing,
-    }
+    Ok(label)
 }
 
 // d may be a lateness.
@@ -88,7 +88,14 @@ fn granule_length(cells: &[i32], period: i64, distance: i64, t: i64) -> u64
 
 // Whether a delivery may be d instants late on z, of a sound row and with numbers within the limits: z may still be
 // no label.
-fn judged(z: i64, d: i64, allowance: Allowance, cells: &[i32], period: i64, distance: i64) -> Late
+fn judged(
+    z: i64,
+    d: i64,
+    allowance: Allowance,
+    cells: &[i32],
+    period: i64,
+    distance: i64,
+) -> Result<bool, Refusal>
     requires sound { Sound period distance cells.now }
     requires within { Within 1000000000 z }
     requires d_value { between (pos 0) (pos late_limit) d ≡ true }
@@ -96,14 +103,14 @@ fn judged(z: i64, d: i64, allowance: Allowance, cells: &[i32], period: i64, dist
     ensures { late_reply result ≡ require 15 (has (given period distance cells.now) z) (answer (F.may_be_late (up d) (Q.granule_length (given period distance cells.now) z) allowance)) }
 {
     let at = row_check::instant_of(cells, period, distance, z);
-    let Found::At(t) = at else {
-        return Late::Refused(Refusal::NotALabel);
+    let Some(t) = at else {
+        return Err(Refusal::NotALabel);
     };
     let length = granule_length(cells, period, distance, t);
     if floats::may_be_late(d as u64, length, allowance) {
-        Late::Allowed
+        Ok(true)
     } else {
-        Late::TooLate
+        Ok(false)
     }
 }
 
@@ -116,18 +123,18 @@ pub fn may_be_late(
     cells: &[i32],
     period: i64,
     distance: i64,
-) -> Late
+) -> Result<bool, Refusal>
     requires { Sound period distance cells.now }
     ensures { late_reply result ≡ may_be_late (given period distance cells.now) z d allowance }
 {
     if !Calendar::in_range(z) {
-        return Late::Refused(Refusal::ArgumentOutsideLimits);
+        return Err(Refusal::ArgumentOutsideLimits);
     }
     if !is_lateness(d) {
-        return Late::Refused(Refusal::ArgumentOutsideLimits);
+        return Err(Refusal::ArgumentOutsideLimits);
     }
     if !floats::allowed(allowance) {
-        return Late::Refused(Refusal::AllowanceNotAllowed);
+        return Err(Refusal::AllowanceNotAllowed);
     }
     judged(z, d, allowance, cells, period, distance)
 }

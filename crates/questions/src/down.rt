@@ -6,25 +6,12 @@ ghost use Rattle.calendar.specs.Questions as Q;
 ghost use Rattle.questions.specs.Answers.{parts_reply, counted, parts_after};
 
 use calendar::{Calendar, Refusal};
-use cursors::Found;
-use parts::Walked;
-
-// How many parts there are.
-#[derive(Clone, Copy)]
-pub enum Parted {
-    Parts(usize),
-    Refused(Refusal),
-}
 
 // Makes the whole list zero.
 pub fn clear(parts: &mut [i64])
     ensures { parts.new ≡ replicate (length parts.old) (pos 0) }
 {
-    let mut i = 0;
-    while i < parts.len() {
-        parts[i] = 0;
-        i += 1;
-    }
+    parts.fill(0);
 }
 
 // The labels of g's slots that make up the slot z of h, rising, in `parts`; the rest of it is zero, and all of it
@@ -39,23 +26,23 @@ pub fn down(
     g_cells: &[i32],
     g_period: i64,
     g_distance: i64,
-) -> Parted
+) -> Result<usize, Refusal>
     ensures answer { parts_reply result ≡ counted (Q.down (given h_period h_distance h_cells.now) (given g_period g_distance g_cells.now) z (length parts.old)) }
     ensures list { parts.new ≡ parts_after (length parts.old) (Q.down (given h_period h_distance h_cells.now) (given g_period g_distance g_cells.now) z (length parts.old)) }
 {
     clear(&mut *parts);
     if !row_check::sound(h_cells, h_period, h_distance) {
-        return Parted::Refused(Refusal::RowNotSound);
+        return Err(Refusal::RowNotSound);
     }
     if !row_check::sound(g_cells, g_period, g_distance) {
-        return Parted::Refused(Refusal::RowNotSound);
+        return Err(Refusal::RowNotSound);
     }
     if !Calendar::in_range(z) {
-        return Parted::Refused(Refusal::ArgumentOutsideLimits);
+        return Err(Refusal::ArgumentOutsideLimits);
     }
     let instant = row_check::instant_of(h_cells, h_period, h_distance, z);
-    let Found::At(t) = instant else {
-        return Parted::Refused(Refusal::NotALabel);
+    let Some(t) = instant else {
+        return Err(Refusal::NotALabel);
     };
     let first = granule_ends::first_instant(h_cells, h_period, h_distance, t);
     let walked = parts::parts_of(
@@ -70,16 +57,16 @@ pub fn down(
         g_distance,
     );
     match walked {
-        Walked::Parts(count) => {
+        Some(count) => {
             if parts.len() < count {
                 clear(&mut *parts);
-                return Parted::Refused(Refusal::ListTooShort);
+                return Err(Refusal::ListTooShort);
             }
-            Parted::Parts(count)
+            Ok(count)
         }
-        Walked::Incomplete => {
+        None => {
             clear(&mut *parts);
-            Parted::Refused(Refusal::PartsIncomplete)
+            Err(Refusal::PartsIncomplete)
         }
     }
 }

@@ -15,49 +15,18 @@ use least_form::Shortest;
 pub mod checked;
 pub mod down;
 
-// The label of an instant, and its place among the slot's own instants, from 1; or none.
-#[derive(Clone, Copy)]
-pub enum Placing {
-    At(i64, u64),
-    Nothing,
-    Refused(Refusal),
-}
-
-// The label of the slot that holds what was asked about, or none.
-#[derive(Clone, Copy)]
-pub enum Up {
-    Label(i64),
-    Nothing,
-    Refused(Refusal),
-}
-
-#[derive(Clone, Copy)]
-pub enum Figured {
-    Are(Figures),
-    Refused(Refusal),
-}
-
-// The least period, and how many divisors were tried for it.
-#[derive(Clone, Copy)]
-pub enum Shortening {
-    To(Shortest),
-    Refused(Refusal),
-}
-
-#[derive(Clone, Copy)]
-pub enum Late {
-    Allowed,
-    TooLate,
-    Refused(Refusal),
-}
-
 // The label of the instant t and its place in that slot, or none. Refuses 13, 14. Costs one pass over the row, for
 // check 13, and a walk over the slot up to t.
-pub fn up_instant(t: i64, cells: &[i32], period: i64, distance: i64) -> Placing
+pub fn up_instant(
+    t: i64,
+    cells: &[i32],
+    period: i64,
+    distance: i64,
+) -> Result<Option<(i64, u64)>, Refusal>
     ensures { placed_reply result ≡ up_from_instant (given period distance cells.now) t }
 {
     if !row_check::sound(cells, period, distance) {
-        return Placing::Refused(Refusal::RowNotSound);
+        return Err(Refusal::RowNotSound);
     }
     checked::up_instant(t, cells, period, distance)
 }
@@ -72,14 +41,14 @@ pub fn up_granule(
     h_cells: &[i32],
     h_period: i64,
     h_distance: i64,
-) -> Up
+) -> Result<Option<i64>, Refusal>
     ensures { up_reply result ≡ up_from_granule (given g_period g_distance g_cells.now) (given h_period h_distance h_cells.now) z }
 {
     if !row_check::sound(g_cells, g_period, g_distance) {
-        return Up::Refused(Refusal::RowNotSound);
+        return Err(Refusal::RowNotSound);
     }
     if !row_check::sound(h_cells, h_period, h_distance) {
-        return Up::Refused(Refusal::RowNotSound);
+        return Err(Refusal::RowNotSound);
     }
     checked::up_granule(
         z, g_cells, g_period, g_distance, h_cells, h_period, h_distance,
@@ -88,31 +57,31 @@ pub fn up_granule(
 
 // Openness, mean length of a slot and mean spacing of a row that has so many granules in its period. Refuses 13, also where
 // it has not. Costs three passes over the row, one of them for check 13 and one for its granules.
-pub fn figures(granules: i64, cells: &[i32], period: i64, distance: i64) -> Figured
+pub fn figures(granules: i64, cells: &[i32], period: i64, distance: i64) -> Result<Figures, Refusal>
     ensures { FiguresOf (given period distance cells.now) granules result }
 {
     if !row_check::sound(cells, period, distance) {
-        return Figured::Refused(Refusal::RowNotSound);
+        return Err(Refusal::RowNotSound);
     }
     if counts::granules(cells, period, distance) != granules {
-        return Figured::Refused(Refusal::RowNotSound);
+        return Err(Refusal::RowNotSound);
     }
     let labelled = counts::labelled_instants(cells);
     let shown = floats::figures_of(labelled as u64, period as u64, granules as u64);
-    Figured::Are(shown)
+    Ok(shown)
 }
 
 // The least period of the row, and how many common divisors of period, distance and granules were tried for it, the
 // greatest first. Refuses 13. Costs three passes over the row, one of them for check 13, and at most one for each try.
-pub fn least_period(cells: &[i32], period: i64, distance: i64) -> Shortening
+pub fn least_period(cells: &[i32], period: i64, distance: i64) -> Result<Shortest, Refusal>
     ensures { shortening_reply result ≡ least_period (given period distance cells.now) }
 {
     if !row_check::sound(cells, period, distance) {
-        return Shortening::Refused(Refusal::RowNotSound);
+        return Err(Refusal::RowNotSound);
     }
     let granules = counts::granules(cells, period, distance);
     let shortest = least_form::least_period(cells, period, distance, granules);
-    Shortening::To(shortest)
+    Ok(shortest)
 }
 
 // Whether a delivery may be d instants late on the slot z. Refuses 13, 14, 18, 15. Costs one pass over the row, for
@@ -124,11 +93,11 @@ pub fn may_be_late(
     cells: &[i32],
     period: i64,
     distance: i64,
-) -> Late
+) -> Result<bool, Refusal>
     ensures { late_reply result ≡ may_be_late (given period distance cells.now) z d allowance }
 {
     if !row_check::sound(cells, period, distance) {
-        return Late::Refused(Refusal::RowNotSound);
+        return Err(Refusal::RowNotSound);
     }
     checked::may_be_late(z, d, allowance, cells, period, distance)
 }

@@ -10,8 +10,6 @@ ghost use Rattle.questions.specs.Answers.{counted, parts_after, least_period, ma
 ghost use Rattle.questions_api.specs.Codes.{placed_code, placed_label, placed_place, up_code, up_label, down_code, FiguresLeft, least_code, tried_left, late_code, allowance_of};
 
 use floats::Allowance;
-use questions::down::Parted;
-use questions::{Figured, Shortening};
 
 pub mod told;
 
@@ -79,8 +77,8 @@ pub fn down(
         g_distance,
     );
     match parted {
-        Parted::Parts(n) => n as i64,
-        Parted::Refused(x) => codes::refusal_code(x),
+        Ok(n) => n as i64,
+        Err(x) => codes::refusal_code(x),
     }
 }
 
@@ -98,13 +96,13 @@ pub fn figures(
 {
     let figured = questions::figures(granules, cells, period, distance);
     match figured {
-        Figured::Are(v) => {
+        Ok(v) => {
             *openness = v.openness;
             *mean_length = v.mean_length;
             *mean_spacing = v.mean_spacing;
             0
         }
-        Figured::Refused(x) => {
+        Err(x) => {
             *openness = 0.0;
             *mean_length = 0.0;
             *mean_spacing = 0.0;
@@ -120,11 +118,11 @@ pub fn least_period(cells: &[i32], period: i64, distance: i64, tried: &mut i64) 
 {
     let shortening = questions::least_period(cells, period, distance);
     match shortening {
-        Shortening::To(shortest) => {
+        Ok(shortest) => {
             *tried = shortest.tried as i64;
             shortest.period
         }
-        Shortening::Refused(x) => {
+        Err(x) => {
             *tried = 0;
             codes::refusal_code(x)
         }

@@ -13,12 +13,11 @@ ghost use Rattle.cursors.specs.Found.{found, Sound, Within};
 ghost use Rattle.row_check.specs.Order.{labels_sound};
 
 use calendar::{Calendar, LONGEST_PERIOD};
-use cursors::Found;
 
 pub mod scan;
 
 // An instant with the label z: z less whole turns, counted from the first label, is in the row itself.
-pub fn instant_of(cells: &[i32], period: i64, distance: i64, z: i64) -> Found
+pub fn instant_of(cells: &[i32], period: i64, distance: i64, z: i64) -> Option<i64>
     requires sound { Sound period distance cells.now }
     requires within { Within 1000000000 z }
     ensures result_value { found result ≡ instant_of (given period distance cells.now) z }
@@ -28,9 +27,9 @@ pub fn instant_of(cells: &[i32], period: i64, distance: i64, z: i64) -> Found
     let cell = z - turns * distance;
     let i = scan::position(cells, cell as i32);
     if i < cells.len() {
-        Found::At(i as i64 + turns * period)
+        Some(i as i64 + turns * period)
     } else {
-        Found::Nothing
+        None
     }
 }
 
@@ -45,7 +44,7 @@ fn labels_sound(cells: &[i32], distance: i64) -> bool
     }
     let first = scan::wide(cells, start);
     let end = scan::last_label(cells, start);
-    let Found::At(last) = end else {
+    let Some(last) = end else {
         return false;
     };
     if first < Calendar::LEAST_LABEL {

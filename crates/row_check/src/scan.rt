@@ -11,7 +11,6 @@ ghost use Rattle.row_check.specs.Blocks.{Block};
 ghost use Rattle.row_check.specs.Order.{risen, risen_from, risen_behind};
 
 use calendar::Calendar;
-use cursors::Found;
 
 // The cell at the index i, which is a number of 32 bits.
 pub fn wide(cells: &[i32], i: usize) -> i64
@@ -25,14 +24,10 @@ pub fn wide(cells: &[i32], i: usize) -> i64
 pub fn leading(cells: &[i32]) -> usize
     ensures { result ≡ S.leading cells.now }
 {
-    let mut i = 0;
-    while i < cells.len() {
-        if cells[i] != Calendar::EMPTY {
-            return i;
-        }
-        i += 1;
-    }
-    i
+    cells
+        .iter()
+        .position(|y| *y != Calendar::EMPTY)
+        .unwrap_or(cells.len())
 }
 
 // The first label of a row that has one.
@@ -48,14 +43,7 @@ pub fn first_label(cells: &[i32]) -> i64
 pub fn position(cells: &[i32], z: i32) -> usize
     ensures { result ≡ S.position z cells.now }
 {
-    let mut i = 0;
-    while i < cells.len() {
-        if cells[i] == z {
-            return i;
-        }
-        i += 1;
-    }
-    i
+    cells.iter().position(|y| *y == z).unwrap_or(cells.len())
 }
 
 // The most cells that are counted at a time, in a number of 32 bits: those of a cell's width are counted several at once.
@@ -83,12 +71,10 @@ fn falls_in(cells: &[i32], start: usize, end: usize) -> u32
     ensures { result ≡ 0 → risen_behind cells.now start ≡ risen_behind cells.now end }
 {
     let mut count: u32 = 0;
-    let mut i = start;
-    while i < end {
+    for i in start..end {
         if cells[i] < cells[i - 1] {
             count += 1;
         }
-        i += 1;
     }
     count
 }
@@ -113,7 +99,7 @@ fn rising_to(cells: &[i32], start: usize) -> usize
 
 // The last label from that of the cell at `start` on; nothing where labels fall. An empty cell is below every label.
 // A turn looks at two cells; where their number is odd, the first, which has the label itself, is left out.
-fn last_stepped(cells: &[i32], start: usize) -> Found
+fn last_stepped(cells: &[i32], start: usize) -> Option<i64>
     requires { start < length cells.now }
     ensures { found result ≡ risen_from cells.now start }
 {
@@ -124,22 +110,22 @@ fn last_stepped(cells: &[i32], start: usize) -> Found
         if y >= last {
             last = y;
         } else if y != Calendar::EMPTY {
-            return Found::Nothing;
+            return None;
         }
         let z = cells[i + 1];
         if z >= last {
             last = z;
         } else if z != Calendar::EMPTY {
-            return Found::Nothing;
+            return None;
         }
         i += 2;
     }
-    Found::At(last as i64)
+    Some(last as i64)
 }
 
 // The last label from the first on, which stands at `start`; nothing where labels fall. Cells that never fall have no gap,
 // and are passed many at a time; a short row is not worth it.
-pub fn last_label(cells: &[i32], start: usize) -> Found
+pub fn last_label(cells: &[i32], start: usize) -> Option<i64>
     requires { start < length cells.now }
     ensures { found result ≡ risen (get_or cells.now start empty) (drop start cells.now) }
 {

@@ -1,6 +1,9 @@
 -- An operation that has passed the checks before its working row is made.
 -- Assumes nothing.
-use mathlib.Core.Path.{◌≡◌, refl, sym, ◌∙◌, ap}
+use Rattle.calendar.specs.declared.Refusal.TheVariants.{NothingLabelled, LabelOutsideLimits}
+use Rattle.calendar.specs.declared.Refusal.{Refusal}
+use Rattle.std.specs.Prelude.{Err, Ok, Result, ⊤}
+use mathlib.Core.Path.{◌≡◌, refl, sym, ◌∙◌, ap, subst}
 use mathlib.Core.Bool.{Bool, true, false, not, cond}
 use Prim.Native.Nat.{ℕ}
 use native.Mathlib.Omega.{arith}
@@ -13,6 +16,7 @@ use Rattle.calendar.specs.Compute.{working}
 use Rattle.calendar.specs.Checks.{full_operands, aligned, emptied, unlabelled, labels_in_range}
 use Rattle.calendar.specs.Sound.{sound}
 use Rattle.calendar.specs.Least.{least}
+use Rattle.calendar.specs.Refusals.{number_of}
 use Rattle.calendar.specs.Reply.{Reply, require}
 use Rattle.calendar.specs.Reply.Reply.{refused, answer}
 use Rattle.calendar.specs.Outcome.{converted}
@@ -27,8 +31,6 @@ use Rattle.algebra.proofs.EmptiedCheck.{emptied-iff}
 use Rattle.algebra.proofs.Converted.{converted-checks}
 use Rattle.operand_checks.specs.declared.Extent.{Extent}
 use Rattle.operand_checks.specs.Admission.{extent, admission}
-use Rattle.fill_shared.specs.declared.Filled.{Filled}
-use Rattle.fill_shared.specs.declared.Filled.TheVariants.{Labelled, Unlabelled, OutOfRange}
 use Rattle.fill_shared.specs.Placed.{filled_as}
 
 -- what the checks have shown
@@ -66,20 +68,20 @@ refused-before o room n h =
 
 -- ---- what the labels of the working row are
 
-abbrev labels : Bool → Bool → Filled
-labels u l = cond u Unlabelled (cond l Labelled OutOfRange)
+abbrev labels : Bool → Bool → Result ⊤ Refusal
+labels u l = cond u (Err NothingLabelled) (cond l (Ok tt) (Err LabelOutsideLimits))
 
-labels-none : (u l : Bool) → labels u l ≡ Unlabelled → u ≡ true
+labels-none : (u l : Bool) → labels u l ≡ (Err NothingLabelled) → u ≡ true
 labels-none true l e = refl
 labels-none false true e = let z : ◌≡◌ {A = ℕ} 0 1 = cc in absurd (omega arith)
 labels-none false false e = let z : ◌≡◌ {A = ℕ} 0 1 = cc in absurd (omega arith)
 
-labels-out : (u l : Bool) → labels u l ≡ OutOfRange → (u ≡ false) × (l ≡ false)
+labels-out : (u l : Bool) → labels u l ≡ (Err LabelOutsideLimits) → (u ≡ false) × (l ≡ false)
 labels-out true l e = let z : ◌≡◌ {A = ℕ} 0 1 = cc in absurd (omega arith)
 labels-out false true e = let z : ◌≡◌ {A = ℕ} 0 1 = cc in absurd (omega arith)
 labels-out false false e = (refl, refl)
 
-labels_in : (u l : Bool) → labels u l ≡ Labelled → (u ≡ false) × (l ≡ true)
+labels_in : (u l : Bool) → labels u l ≡ (Ok tt) → (u ≡ false) × (l ≡ true)
 labels_in true l e = let z : ◌≡◌ {A = ℕ} 0 1 = cc in absurd (omega arith)
 labels_in false true e = (refl, refl)
 labels_in false false e = let z : ◌≡◌ {A = ℕ} 0 1 = cc in absurd (omega arith)
@@ -105,12 +107,29 @@ module _ (o : Operation Row) (room : ℕ) (x : Extent) (a : Admitted o room x) w
   rest = converted-checks o room ∙ simp (a.full, a.span-in, a.alike, a.kept, a.period-in)
 
   -- by what the labels are found to be
-  module _ (r : Filled) (is : r ≡ filled_as o) where
-    pub none-labelled : r ≡ Unlabelled → converted o room ≡ refused 12
+  module _ (r : Result ⊤ Refusal) (is : r ≡ filled_as o) where
+    pub none-labelled : r ≡ (Err NothingLabelled) → converted o room ≡ refused 12
     none-labelled h = rest ∙ simp (labels-none (unlabelled o) (labels_in_range o) (sym is ∙ h))
 
-    pub out_of_range : r ≡ OutOfRange → converted o room ≡ refused 11
+    pub out_of_range : r ≡ (Err LabelOutsideLimits) → converted o room ≡ refused 11
     out_of_range h = let l = labels-out (unlabelled o) (labels_in_range o) (sym is ∙ h) in rest ∙ simp (l.0, l.1)
 
-    pub all-labelled : r ≡ Labelled → (unlabelled o ≡ false) × (labels_in_range o ≡ true) × (converted o room ≡ answer (least (working o)))
+    pub labels-refused : (n : Refusal) → r ≡ Err n → converted o room ≡ refused (number_of n)
+    labels-refused n h = by (unlabelled o) (labels_in_range o) refl refl
+      where
+        by : (u l : Bool) → unlabelled o ≡ u → labels_in_range o ≡ l → converted o room ≡ refused (number_of n)
+        by true l p q =
+            let f : filled_as o ≡ Err NothingLabelled = rw p refl in
+            let e : ◌≡◌ {A = Result ⊤ Refusal} (Err NothingLabelled) (Err n) = sym f ∙ sym is ∙ h in
+            let s : NothingLabelled ≡ n = cc in subst (λ (x : Refusal). converted o room ≡ refused (number_of x)) s (none-labelled (h ∙ ap Err (sym s)))
+        by false true p q =
+            let f : filled_as o ≡ (Ok tt) = rw (p, q) refl in
+            let e : ◌≡◌ {A = Result ⊤ Refusal} (Ok tt) (Err n) = sym f ∙ sym is ∙ h in
+            let z : ◌≡◌ {A = ℕ} 0 1 = cc in absurd (omega arith)
+        by false false p q =
+            let f : filled_as o ≡ Err LabelOutsideLimits = rw (p, q) refl in
+            let e : ◌≡◌ {A = Result ⊤ Refusal} (Err LabelOutsideLimits) (Err n) = sym f ∙ sym is ∙ h in
+            let s : LabelOutsideLimits ≡ n = cc in subst (λ (x : Refusal). converted o room ≡ refused (number_of x)) s (out_of_range (h ∙ ap Err (sym s)))
+
+    pub all-labelled : r ≡ (Ok tt) → (unlabelled o ≡ false) × (labels_in_range o ≡ true) × (converted o room ≡ answer (least (working o)))
     all-labelled h = let l = labels_in (unlabelled o) (labels_in_range o) (sym is ∙ h) in (l.0, l.1, rest ∙ simp (l.0, l.1))

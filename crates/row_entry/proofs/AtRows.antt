@@ -1,5 +1,7 @@
 -- The operation that an entry names, over the rows that stand in the pool.
 -- Assumes nothing.
+use Rattle.calendar.specs.declared.Refusal.{Refusal}
+use Rattle.std.specs.Prelude.{Result}
 use mathlib.Core.Path.{◌≡◌, refl, sym, ◌∙◌, ap, ap₂, subst}
 use mathlib.Core.Bool.{true}
 use mathlib.Core.List.{List}
@@ -24,7 +26,6 @@ use Rattle.kinds.specs.Stands.{row_in, Counted, CountedFirst}
 use Rattle.entries.specs.declared.Named.{Named}
 use Rattle.entries.specs.Naming.{Names}
 use Rattle.fill_shared.specs.Placed.{over}
-use Rattle.row_entry.specs.declared.Appended.{Appended}
 use Rattle.row_entry.specs.Stores.{Stores}
 use Rattle.row_entry.specs.Entering.{operand_of, Before, Enterable, Became}
 use Rattle.row_entry.proofs.Standing.{operand-ends, operand_row, operand-counted}
@@ -122,7 +123,7 @@ module _ (l : List Row) (k : ℕ) (headings : List ℕ) (pool : List ℤ) (used 
         has-heading = heading;
       })
 
-  pub became-as : (c : Appended) (numbers : List ℕ) (after : List ℤ)
+  pub became-as : (c : Result ℕ Refusal) (numbers : List ℕ) (after : List ℤ)
       → Became k used headings pool (converted (over n.kind pool a b) (length pool - used)) c numbers after
       → Became k used headings pool (converted (at_rows l o) (length pool - used)) c numbers after
   became-as c numbers after = subst (λ (x : Operation Row). Became k used headings pool (converted x (length pool - used)) c numbers after) over-is

@@ -1,5 +1,7 @@
 -- What an operation over rows of a pool has shown before its working row is filled in, and behind.
 -- Assumes nothing.
+use Rattle.calendar.specs.declared.Refusal.{Refusal}
+use Rattle.std.specs.Prelude.{Ok, Result, ⊤}
 use mathlib.Core.Path.{◌≡◌, sym, ◌∙◌, ap}
 use mathlib.Core.Bool.{true, false}
 use mathlib.Core.List.{List, ◌++◌}
@@ -34,9 +36,6 @@ use Rattle.kinds.specs.declared.Operand.{Operand}
 use Rattle.kinds.specs.Stands.{row_in}
 use Rattle.fill_shared.specs.Fillable.{Fillable}
 use Rattle.fill_shared.specs.Placed.{Placed, over, filled_as}
-use Rattle.fill_shared.specs.declared.Filled.{Filled}
-use Rattle.fill_shared.specs.declared.Filled.TheVariants.{Labelled}
-use Rattle.row_entry.specs.declared.Appended.TheVariants.{Ends}
 use Rattle.row_entry.specs.Entering.{Enterable, Worked, Added, Became}
 use Rattle.entries.proofs.Naturals.{nat_abs-up}
 use Rattle.row_entry.proofs.Sounds.{operands-sound, factor-positive, span-limit}
@@ -102,7 +101,7 @@ module _ (kind : Kind) (x : Extent) (a b : Operand) (k used : ℕ) (headings : L
 
   -- ---- behind it
 
-  module _ (after : List ℤ) (r : Filled) (found : r ≡ filled_as o) (labelled : r ≡ Labelled)
+  module _ (after : List ℤ) (r : Result ⊤ Refusal) (found : r ≡ filled_as o) (labelled : r ≡ (Ok tt))
       (is : labels_in_range o ≡ true → after ≡ take used pool ++ ((working o).cells ++ drop (used + nat_abs (to_z w64 (of_z w64 x.period))) pool)) where
     all_in : (unlabelled o ≡ false) × (labels_in_range o ≡ true) × (converted o (length pool - used) ≡ answer (least (working o)))
     all_in = all-labelled o (length pool - used) x passed r found labelled
@@ -120,5 +119,5 @@ module _ (kind : Kind) (x : Extent) (a b : Operand) (k used : ℕ) (headings : L
 
     pub became : (last : List ℤ) (numbers : List ℕ) (n : ℕ)
         → Added k used headings after (least (given x.period x.distance (take (up x.period) (drop used after)))) n numbers last
-        → Became k used headings pool (converted o (length pool - used)) (Ends n) numbers last
+        → Became k used headings pool (converted o (length pool - used)) (Ok n) numbers last
     became last numbers n d = (least (working o), all_in.2, added-before o used pool after period-fits cells-length after_is x passed.is k headings numbers n last d)

@@ -1,5 +1,6 @@
 -- How the row of an entry comes to stand behind the others.
-use Rattle.std.specs.Prelude.{◌≡◌, true, List, ◌∷◌, ◌++◌, ℕ, ◌+◌, ◌*◌, ◌≤◌, ◌<◌, ℤ, pos, ◌≤ℤ◌, length, get_or, take, drop}
+use Rattle.calendar.specs.declared.Refusal.{Refusal}
+use Rattle.std.specs.Prelude.{◌≡◌, true, List, ◌∷◌, ◌++◌, ℕ, ◌+◌, ◌*◌, ◌≤◌, ◌<◌, ℤ, pos, ◌≤ℤ◌, length, get_or, take, drop, Err, Ok, Result}
 use Rattle.integers.specs.Parts.{up}
 use Rattle.calendar.specs.Meaning.{Row}
 use Rattle.calendar.specs.Operation.{Operation}
@@ -16,8 +17,6 @@ use Rattle.kinds.specs.declared.Kind.{Kind}
 use Rattle.kinds.specs.declared.Operand.{Operand}
 use Rattle.kinds.specs.Operations.{operands, Numbers, SoundFirst}
 use Rattle.kinds.specs.Stands.{end, row_in, CountedFirst}
-use Rattle.row_entry.specs.declared.Appended.{Appended}
-use Rattle.row_entry.specs.declared.Appended.TheVariants.{Refused, Ends}
 use Rattle.row_entry.specs.Stores.{Stores}
 
 -- the row whose heading is the j-th
@@ -73,6 +72,6 @@ pub record Kept (used : ℕ) (old : List ℕ) (before : List ℤ) (headings : Li
   pub cells : take used after ≡ take used before
 
 -- what became of an operation with the reply x
-abbrev pub Became : ℕ → ℕ → List ℕ → List ℤ → Reply Row → Appended → List ℕ → List ℤ → Type 0
-Became k used numbers before x (Refused n) headings pool = (x ≡ refused (number_of n)) × Kept used numbers before headings pool
-Became k used numbers before x (Ends e) headings pool = (r : Row) × (x ≡ answer r) × Added k used numbers before r e headings pool
+abbrev pub Became : ℕ → ℕ → List ℕ → List ℤ → Reply Row → Result ℕ Refusal → List ℕ → List ℤ → Type 0
+Became k used numbers before x (Err n) headings pool = (x ≡ refused (number_of n)) × Kept used numbers before headings pool
+Became k used numbers before x (Ok e) headings pool = (r : Row) × (x ≡ answer r) × Added k used numbers before r e headings pool

@@ -1,5 +1,6 @@
 -- Rows and headings as they stand between two entries.
-use Rattle.std.specs.Prelude.{◌≡◌, true, ℕ, ◌+◌, ◌-◌, ◌*◌, ◌≤◌, ◌<◌, ℤ, length, take}
+use Rattle.calendar.specs.declared.Refusal.{Refusal}
+use Rattle.std.specs.Prelude.{◌≡◌, true, ℕ, ◌+◌, ◌-◌, ◌*◌, ◌≤◌, ◌<◌, ℤ, length, take, Err, Ok, Result}
 use mathlib.Core.List.{List, [], ◌∷◌, ◌++◌, Memᴰ}
 use Rattle.calendar.specs.Meaning.{Row}
 use Rattle.calendar.specs.Sound.{sound}
@@ -10,8 +11,6 @@ use Rattle.calendar.specs.Table.{entry_at}
 use Rattle.calendar.specs.Outcome.{judged}
 use Rattle.calendar.specs.Stored.{joined, headings_from}
 use Rattle.calendar.specs.Lists.{filled}
-use Rattle.row_entry.specs.declared.Appended.{Appended}
-use Rattle.row_entry.specs.declared.Appended.TheVariants.{Refused, Ends}
 
 -- the rows l stand in the pool from cell 0 on, up to the cell `used`, with their headings; what stands behind them is left open
 pub record Stores (l : List Row) (headings : List ℕ) (pool : List ℤ) (used : ℕ) : Type 0 where
@@ -29,8 +28,8 @@ pub record EntryDue (t : List ℤ) (k : ℕ) (headings : List ℕ) (pool : List 
   pub at-most : length pool ≤ pool_limit
 
 -- what became of the entry k behind the rows l: after a refusal these still stand, and the cells behind them are scratch
-abbrev pub Entered : List ℤ → ℕ → List Row → Appended → List ℕ → List ℤ → Type 0
-Entered t k l (Refused n) headings pool =
+abbrev pub Entered : List ℤ → ℕ → List Row → Result ℕ Refusal → List ℕ → List ℤ → Type 0
+Entered t k l (Err n) headings pool =
     (judged l (length pool - length (joined l)) (entry_at t k) ≡ refused (number_of n)) × Stores l headings pool (length (joined l))
-Entered t k l (Ends e) headings pool =
+Entered t k l (Ok e) headings pool =
     (r : Row) × (judged l (length pool - length (joined l)) (entry_at t k) ≡ answer r) × Stores (l ++ (r ∷ [])) headings pool e

@@ -22,19 +22,11 @@ ghost use Rattle.row_entry.specs.Entering.{operand_of, NamedDue, Before, Enterab
 
 use calendar::Refusal;
 use entries::Named;
-use fill_shared::Filled;
 use kinds::{Kind, Operand};
-use operand_checks::{Checked, Extent};
+use operand_checks::Extent;
 
 // How many numbers a heading has: start, period, distance and granules.
 pub const HEADING_LENGTH: usize = 4;
-
-// What entering the row of an entry comes to: a refusal, or the row ends before that cell.
-#[derive(Clone, Copy)]
-pub enum Appended {
-    Refused(Refusal),
-    Ends(usize),
-}
 
 // The row whose heading is the j-th.
 pub fn operand_at(headings: &[u32], j: usize) -> Operand
@@ -78,7 +70,13 @@ fn write_heading(
 }
 
 // The checks of an operation over rows of the pool: 7 by their granules, then the others.
-pub fn check_in(kind: Kind, room: i64, pool: &[i32], a: Operand, b: Operand) -> Checked
+pub fn check_in(
+    kind: Kind,
+    room: i64,
+    pool: &[i32],
+    a: Operand,
+    b: Operand,
+) -> Result<Extent, Refusal>
     requires numbers { Numbers kind }
     requires sound_first { SoundFirst (operands kind) (row_in pool.now a) (row_in pool.now b) }
     requires counted_first { CountedFirst (operands kind) pool.now a b }
@@ -89,7 +87,7 @@ pub fn check_in(kind: Kind, room: i64, pool: &[i32], a: Operand, b: Operand) -> 
     ensures { checked_reply result ≡ admission (over kind pool.now a b) (up room) }
 {
     if !operand_checks::are_full(kind, a, b) {
-        return Checked::Refused(Refusal::OperandNotFull);
+        return Err(Refusal::OperandNotFull);
     }
     let a_start = a.start;
     let a_end = fill_shared::end_of(a, pool.len());
@@ -165,25 +163,22 @@ fn write(
     used: usize,
     headings: &mut [u32],
     pool: &mut [i32],
-) -> Appended
+) -> Result<usize, Refusal>
     requires enterable { Enterable kind a b k used headings.old pool.old }
     requires used_value { admission (over kind pool.old a b) (length pool.old - used) ≡ answer extent }
     ensures lengths { (length headings.new ≡ length headings.old) × (length pool.new ≡ length pool.old) }
     ensures became { Became k used headings.old pool.old (converted (over kind pool.old a b) (length pool.old - used)) result headings.new pool.new }
 {
-    let filled = fill::fill(kind, extent.span, used, extent.period as usize, pool, a, b);
-    match filled {
-        Filled::Unlabelled => Appended::Refused(Refusal::NothingLabelled),
-        Filled::OutOfRange => Appended::Refused(Refusal::LabelOutsideLimits),
-        Filled::Labelled => Appended::Ends(finish(
-            extent.period,
-            extent.distance,
-            k,
-            used,
-            headings,
-            pool,
-        )),
-    }
+    fill::fill(
+        kind,
+        extent.span,
+        used,
+        extent.period as usize,
+        &mut *pool,
+        a,
+        b,
+    )?;
+    Ok(finish(extent.period, extent.distance, k, used, headings, pool))
 }
 
 // Enters the row of an operation over rows of the pool.
@@ -195,17 +190,14 @@ fn enter(
     used: usize,
     headings: &mut [u32],
     pool: &mut [i32],
-) -> Appended
+) -> Result<usize, Refusal>
     requires { Enterable kind a b k used headings.old pool.old }
     ensures lengths { (length headings.new ≡ length headings.old) × (length pool.new ≡ length pool.old) }
     ensures became { Became k used headings.old pool.old (converted (over kind pool.old a b) (length pool.old - used)) result headings.new pool.new }
 {
     let room = pool.len() - used;
-    let checked = check_in(kind, room as i64, pool, a, b);
-    match checked {
-        Checked::Refused(n) => Appended::Refused(n),
-        Checked::Passed(extent) => write(kind, extent, a, b, k, used, headings, pool),
-    }
+    let extent = check_in(kind, room as i64, pool, a, b)?;
+    write(kind, extent, a, b, k, used, headings, pool)
 }
 
 // Enters the row of an operation over the rows of earlier entries. After a refusal the headings are as they were, and so are the first `used` cells; those
@@ -216,7 +208,7 @@ pub fn enter_named(
     used: usize,
     headings: &mut [u32],
     pool: &mut [i32],
-) -> Appended
+) -> Result<usize, Refusal>
     requires { NamedDue named k headings.old pool.old used }
     ensures lengths { (length headings.new ≡ length headings.old) × (length pool.new ≡ length pool.old) }
     ensures became { (l : List Row) (o : Operation ℕ) → length l ≡ k → Stores l headings.old pool.old used → Names k o named → Became k used headings.old pool.old (converted (at_rows l o) (length pool.old - used)) result headings.new pool.new }

@@ -1,6 +1,6 @@
 -- The laws of the map of a row.
 --     Packed       the bits of a packed number
---     Written      a list that is written from the front on
+--     Written      a list with f at each index
 --     Shows        the map of a row shows its labelled instants
 --     Joined       a map made from a row answers of the row's labelled instants
 pub mod Packed

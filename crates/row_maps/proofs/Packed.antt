@@ -1,6 +1,6 @@
 -- The bits of a packed number are those that it was made of.
 -- Assumes nothing.
-use mathlib.Core.Path.{◌≡◌, refl, sym, ap, ◌∙◌}
+use mathlib.Core.Path.{◌≡◌, sym, ap, ◌∙◌}
 use mathlib.Core.Logic.{◌⊎◌, inl, inr}
 use Prim.Native.Nat.{ℕ, zero, suc, ◌+◌, ◌*◌, ◌/◌, ◌%◌, ◌^◌, ◌≤◌, ◌<◌}
 use native.Mathlib.Nat.{eq-or-lt_of_le, mul-le-mul_right, pow-suc, mod-eq_of_lt, lt_of_lt_of_le, add_comm, add-zero, zero-mul, mul_comm, mul_assoc, add-mul}
@@ -31,11 +31,7 @@ two-halves f g e low high b p q =
     omega arith
 
 module _ (f : ℕ → ℕ) (bits : (i : ℕ) → f i ≤ 1) where
-  pub packed_zero : packed f 0 ≡ 0
-  unfolding packed
-  packed_zero = refl
-
-  pub packed-one : (n : ℕ) → packed f (n + 1) ≡ packed f n + f n * 2 ^ n
+  packed-one : (n : ℕ) → packed f (n + 1) ≡ packed f n + f n * 2 ^ n
   unfolding packed
   packed-one n = let e : n + 1 ≡ suc n = omega arith in ap (packed f) e
 

@@ -1,14 +1,13 @@
 -- The open map of a row (document 02, Req 12).
+use Rattle.calendar.specs.declared.Refusal.{Refusal}
 use Rattle.std.proofs.Math.Option.{Option, none, some}
-use Rattle.std.specs.Prelude.{◌&&◌, cond, List, [], ◌∷◌, ℕ, zero, suc, ◌+◌, ◌*◌, ◌^◌, eqb, ℤ, length, get_or, replicate}
+use Rattle.std.specs.Prelude.{◌&&◌, cond, List, [], ◌∷◌, ℕ, zero, suc, ◌+◌, ◌*◌, ◌^◌, eqb, ℤ, length, get_or, replicate, Err, Ok, Result, ⊤}
 use Rattle.calendar.specs.Meaning.{Row, empty, is_empty}
 use Rattle.calendar.specs.Reply.{Reply, require}
 use Rattle.calendar.specs.Reply.Reply.{refused, answer}
 use Rattle.calendar.specs.Sound.{sound}
 use Rattle.calendar.specs.Refusals.{number_of}
 use Rattle.bitmaps.specs.Cells.{words_for}
-use Rattle.row_maps.specs.declared.Made.{Made}
-use Rattle.row_maps.specs.declared.Made.TheVariants.{Done, Refused}
 
 -- 1 where the cell c has a label, and 0 elsewhere and past the last cell
 abbrev pub labelled : List ℤ → ℕ → ℕ
@@ -48,6 +47,6 @@ abbrev pub refusal : Reply (List ℕ) → Option ℕ
 refusal (refused n) = some n
 refusal (answer words) = none
 
-abbrev pub made : Made → Option ℕ
-made Done = none
-made (Refused x) = some (number_of x)
+abbrev pub made : Result ⊤ Refusal → Option ℕ
+made (Ok tt) = none
+made (Err x) = some (number_of x)

@@ -9,12 +9,6 @@ ghost use Rattle.row_maps.specs.Making.{labelled, packed, word_of, map_of, map_r
 
 use calendar::{Calendar, Refusal};
 
-#[derive(Clone, Copy)]
-pub enum Made {
-    Done,
-    Refused(Refusal),
-}
-
 // 1 where the cell c has a label, and 0 elsewhere.
 fn label_bit(cells: &[i32], c: usize) -> u32
     requires { c < length cells.now }
@@ -32,10 +26,8 @@ fn half_of(cells: &[i32], c: usize) -> u32
     ensures { result ≡ packed (λ k. labelled cells.now (c + k)) 32 }
 {
     let mut half: u32 = 0;
-    let mut k = 0;
-    while k < 32 {
+    for k in 0..32 {
         half += label_bit(cells, c + k) << k;
-        k += 1;
     }
     half
 }
@@ -56,10 +48,8 @@ fn last_word(cells: &[i32], i: usize) -> u64
     ensures { result ≡ word_of cells.now i }
 {
     let mut word: u64 = 0;
-    let mut k = 0;
-    while k < 64 {
+    for k in 0..64 {
         word += (bit_at(cells, 64 * i + k) as u64) << k;
-        k += 1;
     }
     word
 }
@@ -82,11 +72,7 @@ fn word_of(cells: &[i32], i: usize) -> u64
 fn clear(words: &mut [u64])
     ensures { words.new ≡ replicate (length words.old) 0 }
 {
-    let mut i = 0;
-    while i < words.len() {
-        words[i] = 0;
-        i += 1;
-    }
+    words.fill(0);
 }
 
 // The map is written, word by word.
@@ -95,27 +81,25 @@ fn fill(words: &mut [u64], cells: &[i32])
     requires words_len { length words.old ≡ words_for (length cells.now) }
     ensures { words.new ≡ map_of cells.now }
 {
-    let mut i = 0;
-    while i < words.len() {
-        words[i] = word_of(cells, i);
-        i += 1;
+    for (i, word) in words.iter_mut().enumerate() {
+        *word = word_of(cells, i);
     }
 }
 
 // The open map of a row, in `words`; all of it is zero after a refusal. Refuses 13, also where the number of words
 // does not fit the row. Costs two passes over the row.
-pub fn make(words: &mut [u64], cells: &[i32], period: i64, distance: i64) -> Made
+pub fn make(words: &mut [u64], cells: &[i32], period: i64, distance: i64) -> Result<(), Refusal>
     ensures answered { made result ≡ refusal (map_reply (given period distance cells.now) (length words.old)) }
     ensures written { words.new ≡ map_after (length words.old) (map_reply (given period distance cells.now) (length words.old)) }
 {
     if !row_check::sound(cells, period, distance) {
         clear(words);
-        return Made::Refused(Refusal::RowNotSound);
+        return Err(Refusal::RowNotSound);
     }
     if words.len() != (cells.len() + 63) / 64 {
         clear(words);
-        return Made::Refused(Refusal::RowNotSound);
+        return Err(Refusal::RowNotSound);
     }
     fill(words, cells);
-    Made::Done
+    Ok(())
 }

@@ -62,6 +62,3 @@ by-positive P g (negsuc n) h = absurd (omega (arith, simp ints at h))
 
 pub natural-fits : (n : ℕ) → SFits w32 (pos n) → T (non_neg (to_z w32 (of_z w32 (pos n)))) × Fits w64 (nat_abs (to_z w32 (of_z w32 (pos n))))
 natural-fits n f = rw (narrow-is (pos n) f) (tt, omega (arith, simp ints at f))
-
-pub natural-is : (n : ℕ) → SFits w32 (pos n) → nat_abs (to_z w32 (of_z w32 (pos n))) ≡ n
-natural-is n f = rw (narrow-is (pos n) f)

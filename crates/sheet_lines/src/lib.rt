@@ -78,11 +78,9 @@ fn write_cells(out: &mut [u8], at: usize, cells: &[i32]) -> usize
     ensures { Adds (spaced_cells cells.now) at out.old result out.new }
 {
     let mut k = at;
-    let mut i = 0;
-    while i < cells.len() {
+    for cell in cells {
         let j = push(&mut *out, k, b' ');
-        k = write_cell(&mut *out, j, cells[i]);
-        i += 1;
+        k = write_cell(&mut *out, j, *cell);
     }
     k
 }
@@ -104,15 +102,13 @@ pub fn write_rows(out: &mut [u8], at: usize, headings: &[u32], pool: &[i32], n: 
     ensures { Adds (row_lines headings.now pool.now n) at out.old result out.new }
 {
     let mut place = at;
-    let mut i = 0;
-    while i < n {
+    for i in 0..n {
         let h = HEADING_LENGTH * i;
         let start = headings[h] as usize;
         let period = headings[h + 1];
         let distance = headings[h + 2];
         let end = start + period as usize;
         place = write_row(&mut *out, place, period, distance, &pool[start..end]);
-        i += 1;
     }
     place
 }
@@ -122,10 +118,8 @@ fn write_word(out: &mut [u8], at: usize, word: &[u8]) -> usize
     ensures { Adds word.now at out.old result out.new }
 {
     let mut place = at;
-    let mut i = 0;
-    while i < word.len() {
-        place = push(&mut *out, place, word[i]);
-        i += 1;
+    for b in word {
+        place = push(&mut *out, place, *b);
     }
     place
 }

@@ -1,5 +1,6 @@
 -- A sheet shows what the text's table means, or names its first bad line.
 -- Assumes nothing.
+use Rattle.std.specs.Prelude.{Option}
 use mathlib.Core.Path.{◌≡◌, refl, sym, ◌∙◌, ap, ap₂, subst}
 use mathlib.Core.Logic.{inl, inr}
 use mathlib.Core.List.{List}
@@ -22,7 +23,6 @@ use Rattle.table_text.proofs.Printed.{row-lines, printed-lines}
 use Rattle.sheet_lines.specs.RowLines.{refusal_line}
 use Rattle.sheet_text.specs.Prints.{LinesOf, Prints, SheetShows}
 use Rattle.sheet_text.specs.Left.{SheetLeft}
-use Rattle.sheet_text.specs.declared.Written.{Written}
 use Rattle.sheet_text.proofs.Rows.{refused-line}
 use Rattle.sheet_text.proofs.Texts.{outcome_of, sheet-is}
 
@@ -53,5 +53,5 @@ sheet-prints s = by (parse s) refl
         inr (es, h, (d.0, d.1, sheet-shows s es h d.0 d.1))
 
 -- and so the list that `sheet` leaves shows it
-pub left-shows : (s : List ℕ) (m : ℕ) (r : Written) (out : List ℕ) → SheetLeft s m r out → SheetShows s m r out
+pub left-shows : (s : List ℕ) (m : ℕ) (r : Option ℕ) (out : List ℕ) → SheetLeft s m r out → SheetShows s m r out
 left-shows s m r out left = record { text = sheet s; prints = sheet-prints s; answer = left.answer; bytes = left.bytes }

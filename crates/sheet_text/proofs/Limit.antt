@@ -1,5 +1,6 @@
 -- A list of `sheet_limit` bytes holds any sheet.
 -- Assumes nothing.
+use Rattle.std.specs.Prelude.{Option, Some}
 use mathlib.Core.Path.{◌≡◌, refl, sym, ◌∙◌, ap, subst}
 use mathlib.Core.List.{List}
 use Prim.Native.Nat.{ℕ, ◌*◌, ◌≤◌}
@@ -20,8 +21,6 @@ use Rattle.table_text.specs.Sheet.{printed, sheet}
 use Rattle.table_text.proofs.Printed.{row-lines, printed-lines}
 use Rattle.sheet_text.specs.Lent.{sheet_limit}
 use Rattle.sheet_text.specs.Left.{SheetLeft}
-use Rattle.sheet_text.specs.declared.Written.{Written}
-use Rattle.sheet_text.specs.declared.Written.TheVariants.{Bytes}
 use Rattle.sheet_text.proofs.Rows.{refused-line, count}
 use Rattle.sheet_text.proofs.Texts.{outcome_of, sheet-is}
 use Rattle.sheet_text.proofs.Lengths.{rows-length, refusal-length}
@@ -52,8 +51,8 @@ sheet-length s = subst (λ (w : List ℕ). length w ≤ sheet_limit) (sym (sheet
     by (table t) e = table-length t
 
 -- so a list of that length is never too short
-pub sheet-answered : (s : List ℕ) (m : ℕ) (r : Written) (out : List ℕ) → SheetLeft s m r out → sheet_limit ≤ m
-    → (r ≡ Bytes (length (sheet s))) × (out ≡ filled m 0 (sheet s))
+pub sheet-answered : (s : List ℕ) (m : ℕ) (r : Option ℕ) (out : List ℕ) → SheetLeft s m r out → sheet_limit ≤ m
+    → (r ≡ Some (length (sheet s))) × (out ≡ filled m 0 (sheet s))
 sheet-answered s m r out left h =
     let test = le-leb (length (sheet s)) m (omega (arith, sheet-length s)) in
     (rw test at left.answer, rw test at left.bytes)

@@ -1,5 +1,6 @@
 -- The rows that a conversion leaves, as their lines.
 -- Assumes nothing.
+use Rattle.std.specs.Prelude.{Ok, Err}
 use mathlib.Core.Path.{◌≡◌, refl, sym, ◌∙◌, ap, ap₂, subst}
 use mathlib.Core.List.{List, [], ◌∷◌, ◌++◌, map, append_assoc, append-nil}
 use Prim.Native.Nat.{ℕ, zero, suc, ◌+◌, ◌/◌, ◌≤◌, ◌<◌}
@@ -18,10 +19,10 @@ use Rattle.algebra.specs.TableMeaning.TableReply.{means}
 use Rattle.algebra.proofs.Demand2.{demand-2-only, represents-length, stored-sound}
 use Rattle.algebra.proofs.Stored.{get_or-mem}
 use Rattle.laws.proofs.Answered.{stored-means}
+use Rattle.conversion.specs.Conversion.{Conversion, Refused, Converted}
 use Rattle.conversion.specs.Answers.{answered}
 use Rattle.conversion.specs.Left.{Left}
 use Rattle.conversion.specs.Shows.{start_at, period_at, row_at}
-use Rattle.conversion.specs.declared.Conversion.TheVariants.{Refused, Converted}
 use Rattle.conversion.proofs.Headings.{Whole, filled-length, headings-length, row-left}
 use Rattle.conversion.proofs.LeftRows.{means-length}
 use Rattle.table_text.specs.Words.{lines}
@@ -99,8 +100,8 @@ module _ (t : List ℤ) (h p : ℕ) (headings : List ℕ) (pool : List ℤ) wher
     where
       by : (o : Outcome) → comes ≡ o → Refused n k ≡ answered o → refusal_line n k ≡ printed comes
       by (refused_at m j) q e =
-          let number : n ≡ m = cc in
-          let entry : k ≡ j = cc in
+          let number : n ≡ m = ap (λ (c : Conversion). elim c [ Err x ↦ x.number | Ok _ ↦ n ]) e in
+          let entry : k ≡ j = ap (λ (c : Conversion). elim c [ Err x ↦ x.entry | Ok _ ↦ k ]) e in
           ap₂ refusal_line number entry ∙ refused-line m j ∙ ap printed (sym q)
       by (rows l) q e = let z : ◌≡◌ {A = ℕ} 0 1 = cc in absurd (omega arith)
 

@@ -1,5 +1,6 @@
 -- A text that is read, as what its sheet prints.
 -- Assumes nothing.
+use Rattle.std.specs.Prelude.{Err, Ok}
 use mathlib.Core.Path.{◌≡◌, refl, sym, ◌∙◌, ap}
 use mathlib.Core.List.{List}
 use Prim.Native.Nat.{ℕ, ◌≤◌}
@@ -15,7 +16,6 @@ use Rattle.table_text.specs.Parse.{Reading, parse}
 use Rattle.table_text.specs.Parse.Reading.{bad, table}
 use Rattle.table_text.specs.Tables.{Left}
 use Rattle.table_text.specs.Sheet.{text_outcome, printed, sheet}
-use Rattle.table_text.specs.declared.table.Reading.TheVariants.{Bad, Table}
 use Rattle.sheet_lines.specs.RowLines.{refusal_line}
 use Rattle.sheet_text.proofs.Rows.{refused-line}
 
@@ -28,21 +28,21 @@ unfolding sheet text_outcome
 sheet-is s = refl
 
 -- a text with a bad line
-pub sheet-bad : (lent : ℕ) (s : List ℕ) (k : ℕ) (l : List ℤ) → Left lent (parse s) (Bad k) l → refusal_line bad_text k ≡ sheet s
+pub sheet-bad : (lent : ℕ) (s : List ℕ) (k : ℕ) (l : List ℤ) → Left lent (parse s) (Err k) l → refusal_line bad_text k ≡ sheet s
 sheet-bad lent s k l h = by (parse s) refl h
   where
-    by : (r : Reading) → parse s ≡ r → Left lent r (Bad k) l → refusal_line bad_text k ≡ sheet s
+    by : (r : Reading) → parse s ≡ r → Left lent r (Err k) l → refusal_line bad_text k ≡ sheet s
     by (bad m) q h =
         let e : k ≡ m = cc h.answer in
         ap (refusal_line bad_text) e ∙ refused-line bad_text m ∙ sym (sheet-is s ∙ ap (λ (r : Reading). printed (outcome_of r)) q)
     by (table t) q h = let z : ◌≡◌ {A = ℕ} 0 1 = cc h.answer in absurd (omega arith)
 
 -- a text of entries: its table stands in the first n of the numbers lent
-pub sheet-table : (lent : ℕ) (s : List ℕ) (n : ℕ) (l : List ℤ) → length l ≡ lent → Left lent (parse s) (Table n) l
+pub sheet-table : (lent : ℕ) (s : List ℕ) (n : ℕ) (l : List ℤ) → length l ≡ lent → Left lent (parse s) (Ok n) l
     → (n ≤ length l) × (printed (outcome (take n l) entry_limit sheet_pool) ≡ sheet s)
 sheet-table lent s n l same h = by (parse s) refl h
   where
-    by : (r : Reading) → parse s ≡ r → Left lent r (Table n) l → (n ≤ length l) × (printed (outcome (take n l) entry_limit sheet_pool) ≡ sheet s)
+    by : (r : Reading) → parse s ≡ r → Left lent r (Ok n) l → (n ≤ length l) × (printed (outcome (take n l) entry_limit sheet_pool) ≡ sheet s)
     by (bad m) q h = let z : ◌≡◌ {A = ℕ} 0 1 = cc h.answer in absurd (omega arith)
     by (table t) q h =
         let e : n ≡ length t = cc h.answer in

@@ -1,5 +1,5 @@
 -- What is to be printed for a text (document 02, Req 01), by what its table means, and a list that shows it.
-use Rattle.std.specs.Prelude.{◌≡◌, ◌⊎◌, List, map, ℕ, ◌<◌, ℤ, length, get_or}
+use Rattle.std.specs.Prelude.{◌≡◌, ◌⊎◌, List, map, ℕ, ◌<◌, ℤ, length, get_or, Option}
 use Rattle.calendar.specs.Limits.{entry_limit}
 use Rattle.calendar.specs.Meaning.{Row, bottom_row}
 use Rattle.calendar.specs.Lists.{filled}
@@ -10,7 +10,6 @@ use Rattle.table_text.specs.Words.{line, lines}
 use Rattle.table_text.specs.Text.{bad_text, sheet_pool, joined, TextOf, BadAt}
 use Rattle.table_text.specs.SheetWords.{row_words, refusal_words}
 use Rattle.sheet_text.specs.Lent.{written_in, whole_in}
-use Rattle.sheet_text.specs.declared.Written.{Written}
 
 -- "a line for each entry: period, distance, then the cells" of its least row, or "one such line only, 'refused 8 at 1'"
 abbrev pub LinesOf : TableReply → List ℕ → Type 0
@@ -26,7 +25,7 @@ Prints s out =
     ⊎ ((es : List (List ℤ)) × TextOf es s × ((m : TableReply) × TableMeans (joined es) entry_limit sheet_pool m × LinesOf m out))
 
 -- the answer for s and the list of m bytes show what is to be printed, with zeros behind it
-pub record SheetShows (s : List ℕ) (m : ℕ) (r : Written) (out : List ℕ) : Type 0 where
+pub record SheetShows (s : List ℕ) (m : ℕ) (r : Option ℕ) (out : List ℕ) : Type 0 where
   pub text : List ℕ
   pub prints : Prints s text
   pub answer : r ≡ written_in m text

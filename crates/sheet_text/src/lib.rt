@@ -12,9 +12,9 @@ ghost use Rattle.sheet_lines.specs.Laid.{Laid};
 ghost use Rattle.sheet_text.specs.Left.{SheetLeft};
 
 use calendar::{ENTRY_LIMIT, Refusal};
-use conversion::{Conversion, HEADING_LENGTH};
+use conversion::{ConversionError, HEADING_LENGTH};
 use entries::ENTRY_LENGTH;
-use table_text::{Reading, TABLE_LENGTH};
+use table_text::TABLE_LENGTH;
 
 // Enough for any sheet: 4,096 cells of at most 12 bytes each, and 64 lines with at most 10 bytes beside their cells.
 pub const SHEET_LIMIT: usize = 49792;
@@ -22,22 +22,11 @@ pub const SHEET_LIMIT: usize = 49792;
 // How many cells the pool has.
 const SHEET_POOL: usize = 4096;
 
-// How much of a lent list a sheet takes, or that it is too short for it.
-#[derive(Clone, Copy)]
-pub enum Written {
-    Bytes(usize),
-    TooShort,
-}
-
 // Makes every byte zero.
 fn clear(out: &mut [u8])
     ensures { out.new ≡ filled (length out.old) 0 [] }
 {
-    let mut i = 0;
-    while i < out.len() {
-        out[i] = 0;
-        i += 1;
-    }
+    out.fill(0);
 }
 
 // Converts a table and lays the lines of what comes of it, with lists for the conversion.
@@ -47,10 +36,10 @@ fn lay_converted(table: &[i32], headings: &mut [u32], pool: &mut [i32], out: &mu
 {
     let converted = conversion::convert(table, &mut *headings, &mut *pool);
     match converted {
-        Conversion::Refused(number, entry) => {
+        Err(ConversionError { number, entry }) => {
             sheet_lines::write_refusal(&mut *out, 0, number, entry)
         }
-        Conversion::Converted => {
+        Ok(()) => {
             let n = table.len() / ENTRY_LENGTH;
             sheet_lines::write_rows(&mut *out, 0, &headings[..], &pool[..], n)
         }
@@ -73,23 +62,23 @@ fn lay_sheet(text: &[u8], out: &mut [u8]) -> usize
     let mut table = [0i32; TABLE_LENGTH];
     let reading = table_text::read_table(text, &mut table);
     match reading {
-        Reading::Bad(line) => {
+        Err(line) => {
             let refusal = Refusal::TextNotAllowed;
             sheet_lines::write_refusal(&mut *out, 0, refusal.number(), line)
         }
-        Reading::Table(n) => lay_table(&table[..n], &mut *out),
+        Ok(n) => lay_table(&table[..n], &mut *out),
     }
 }
 
 // Writes the sheet of a text into a list, with zeros behind it. A list that is too short for it is left all zero; one of SHEET_LIMIT bytes never is.
-pub fn sheet(text: &[u8], out: &mut [u8]) -> Written
+pub fn sheet(text: &[u8], out: &mut [u8]) -> Option<usize>
     ensures { SheetLeft text.now (length out.old) result out.new }
 {
     clear(&mut *out);
     let n = lay_sheet(text, &mut *out);
     if n <= out.len() {
-        return Written::Bytes(n);
+        return Some(n);
     }
     clear(&mut *out);
-    Written::TooShort
+    None
 }

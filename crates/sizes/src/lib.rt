@@ -9,8 +9,6 @@ ghost use Rattle.calendar.specs.Size as Size;
 ghost use Rattle.sizes.specs.Stored.{turn_of, Stored, Alterable, most_coarse};
 ghost use Rattle.sizes.specs.Altered.{alter_period, alter_distance};
 
-use integers::Capped;
-
 // The period of a row, and how far its labels rise over it.
 #[derive(Clone, Copy)]
 pub struct Turn {
@@ -19,7 +17,7 @@ pub struct Turn {
 }
 
 // The span of two operands, where it is at most the room.
-pub fn span(a: Turn, b: Turn, room: u64) -> Capped
+pub fn span(a: Turn, b: Turn, room: u64) -> Option<u64>
     ensures { result ≡ capped_at room (Size.span_of (turn_of a) (turn_of b)) }
 {
     integers::capped_lcm(a.period, b.period, room)
@@ -34,7 +32,7 @@ pub fn rise(a: Turn, span: u64) -> u64
 }
 
 // The working period of group x, where it is at most the room.
-pub fn group_period(a: Turn, x: u64, room: u64) -> Capped
+pub fn group_period(a: Turn, x: u64, room: u64) -> Option<u64>
     requires { 1 ≤ x }
     ensures { result ≡ capped_at room (Size.period_unary (group x) (turn_of a)) }
 {
@@ -67,7 +65,7 @@ pub fn altering_of(a: Turn, b: Turn, x: u64, z: i64, span: u64) -> Altering
 }
 
 // The working period of alter, where it is at most the room: Pa·(D/gcd(D, Na)).
-pub fn alter_period(a: Turn, fine: i64, room: u64) -> Capped
+pub fn alter_period(a: Turn, fine: i64, room: u64) -> Option<u64>
     requires stored { Stored a }
     requires pos_bound { pos 1 ≤ℤ fine }
     ensures { result ≡ capped_at room (alter_period (turn_of a) fine) }

@@ -1,26 +1,17 @@
 // The table on standard input, converted, and a command put to its rows.
 
 use crate::{Command, finished};
-use conversion::Conversion;
+use conversion::ConversionError;
 use planner::{ask, down, late, month, picture, refusals};
 use std::io;
 use std::rt::{Env, Runtime};
-use table_text::{Reading, TABLE_LENGTH, TEXT_LIMIT};
+use table_text::{TABLE_LENGTH, TEXT_LIMIT};
 
 // How many cells the rows may take; those of the civil calendar take 332,046.
 const POOL: usize = 1572864;
 
 // Four numbers for each entry.
 const HEADINGS: usize = 256;
-
-fn first_numbers<'a>(table: &'a [i32], n: usize) -> &'a [i32] {
-    let from = 0;
-    if n <= table.len() {
-        &table[from..n]
-    } else {
-        &table[..0]
-    }
-}
 
 fn answer(
     rt: &(impl Env + Print + Eprint),
@@ -48,10 +39,9 @@ fn ask_in(
     pool: &mut [i32; POOL],
 ) -> io::Result<()> {
     let mut headings = [0u32; HEADINGS];
-    let done = conversion::convert(table, &mut headings, &mut *pool);
-    match done {
-        Conversion::Converted => answer(rt, command, &headings, &*pool),
-        Conversion::Refused(number, entry) => {
+    match conversion::convert(table, &mut headings, &mut *pool) {
+        Ok(()) => answer(rt, command, &headings, &*pool),
+        Err(ConversionError { number, entry }) => {
             refusals::tell_at(rt, number, entry);
             Ok(())
         }
@@ -60,9 +50,8 @@ fn ask_in(
 
 // A finished sheet is checked without a conversion.
 fn ask_table(rt: &impl Runtime, command: Command, table: &[i32]) -> io::Result<()> {
-    if let Command::Check = command {
-        finished::run(rt, table)?;
-        return Ok(());
+    if command == Command::Check {
+        return finished::run(rt, table);
     }
     let mut pool = [0i32; POOL];
     ask_in(rt, command, table, &mut pool)
@@ -70,13 +59,12 @@ fn ask_table(rt: &impl Runtime, command: Command, table: &[i32]) -> io::Result<(
 
 fn ask_text(rt: &impl Runtime, command: Command, text: &[u8]) -> io::Result<()> {
     let mut table = [0i32; TABLE_LENGTH];
-    let reading = table_text::read_table(text, &mut table);
-    match reading {
-        Reading::Bad(line) => {
+    match table_text::read_table(text, &mut table) {
+        Err(line) => {
             refusals::tell_at(rt, 19, line);
             Ok(())
         }
-        Reading::Table(n) => ask_table(rt, command, first_numbers(&table, n)),
+        Ok(n) => ask_table(rt, command, table.get(..n).unwrap_or(&table[..0])),
     }
 }
 

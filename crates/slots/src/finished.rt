@@ -1,5 +1,7 @@
 // A finished sheet that somebody else sent, checked against a table: its lines are laid as rows and headings.
 
+ghost use Rattle.std.specs.Prelude.{◌≤◌, length, IfOk};
+
 use calendar::Calendar;
 use planner::arguments::{digits, digits_behind, signed};
 use planner::refusals;
@@ -7,7 +9,6 @@ use printing::print;
 use sheet_text::SHEET_LIMIT;
 use std::fs::{File, Files};
 use std::io;
-use std::io::Read;
 use std::rt::Runtime;
 use verdicts::Verdict;
 
@@ -20,19 +21,18 @@ const HEADINGS: usize = 256;
 
 const LINE_FEED: u8 = 10;
 
-// A cell that was read, and where it ends; at its own start where there is none.
+// A cell that was read, and where it ends.
 #[derive(Clone, Copy)]
 struct Cell {
     value: i32,
     end: usize,
 }
 
-// Where a line ends, and how many cells stand then; or that it is no row.
+// Where a line ends, and how many cells stand then.
 #[derive(Clone, Copy)]
 struct Laid {
     end: usize,
     used: usize,
-    good: bool,
 }
 
 // The labels of a row as far as it was looked at: how many there are, the first and the last.
@@ -43,15 +43,9 @@ struct Seen {
     last: i32,
 }
 
-fn put_cell(pool: &mut [i32], i: usize, cell: i32) {
-    if i < pool.len() {
-        pool[i] = cell;
-    }
-}
-
-fn put_number(headings: &mut [u32], i: usize, number: u32) {
-    if i < headings.len() {
-        headings[i] = number;
+fn put<T: Copy>(list: &mut [T], i: usize, value: T) {
+    if i < list.len() {
+        list[i] = value;
     }
 }
 
@@ -62,83 +56,60 @@ fn small(v: u64) -> u32 {
 
 // A label as a cell; the greatest for one that no cell has.
 fn narrow(v: i64) -> i32 {
-    if v < -1000000000 {
-        return 2147483647;
+    match i32::try_from(v) {
+        Ok(cell) if Calendar::in_range(v) => cell,
+        _ => 2147483647,
     }
-    if 1000000000 < v {
-        return 2147483647;
+}
+
+// The digits of a label.
+fn label_at(s: &[u8], at: usize, minus: bool) -> Cell {
+    let label = digits(s, at);
+    Cell {
+        value: narrow(signed(minus, label.value)),
+        end: label.end,
     }
-    v as i32
 }
 
 // A label at `at`, with its sign, or ".".
-fn word_at(s: &[u8], at: usize) -> Cell {
-    if s.len() <= at {
-        return Cell { value: 0, end: 0 };
-    }
-    if s[at] == b'.' {
-        return Cell {
+fn word_at(s: &[u8], at: usize) -> Option<Cell> {
+    match s.get(at) {
+        None => None,
+        Some(b'.') => Some(Cell {
             value: Calendar::EMPTY,
             end: at + 1,
-        };
-    }
-    if s[at] == b'-' {
-        let behind = digits(s, at + 1);
-        return Cell {
-            value: narrow(signed(true, behind.value)),
-            end: behind.end,
-        };
-    }
-    let plain = digits(s, at);
-    Cell {
-        value: narrow(signed(false, plain.value)),
-        end: plain.end,
+        }),
+        Some(b'-') => Some(label_at(s, at + 1, true)),
+        Some(_) => Some(label_at(s, at, false)),
     }
 }
 
 // The cell behind a blank at `at`.
-fn cell_at(s: &[u8], at: usize) -> Cell {
-    if at < s.len() {
-        if s[at] == b' ' {
-            return word_at(s, at + 1);
-        }
-    }
-    Cell { value: 0, end: 0 }
-}
-
-fn no_row(end: usize, used: usize) -> Laid {
-    Laid {
-        end,
-        used,
-        good: false,
+fn cell_at(s: &[u8], at: usize) -> Option<Cell> {
+    if at < s.len() && s[at] == b' ' {
+        word_at(s, at + 1)
+    } else {
+        None
     }
 }
 
-// Lays the cells from `from` up to the end of their line behind the first `start` cells.
-fn lay_cells(s: &[u8], from: usize, pool: &mut [i32], start: usize) -> Laid {
+// Lays the cells from `from` up to the end of their line behind the first `start` cells; none where it is no row.
+fn lay_cells(s: &[u8], from: usize, pool: &mut [i32], start: usize) -> Option<Laid> {
     let mut at = from;
     let mut used = start;
     while at < s.len() {
         if s[at] == LINE_FEED {
-            return Laid {
-                end: at + 1,
-                used,
-                good: true,
-            };
+            return Some(Laid { end: at + 1, used });
         }
-        let cell = cell_at(s, at);
-        let end = cell.end;
-        if end <= at {
-            return no_row(at, used);
+        let cell = cell_at(s, at)?;
+        if cell.end <= at || POOL <= used {
+            return None;
         }
-        if POOL <= used {
-            return no_row(at, used);
-        }
-        put_cell(&mut *pool, used, cell.value);
-        at = end;
+        put(&mut *pool, used, cell.value);
+        at = cell.end;
         used += 1;
     }
-    no_row(at, used)
+    None
 }
 
 // What is seen behind a further cell.
@@ -153,10 +124,7 @@ fn seen_behind(seen: Seen, cell: i32) -> Seen {
             last: cell,
         };
     }
-    if cell == seen.last {
-        return seen;
-    }
-    if 4194304 < seen.count {
+    if cell == seen.last || 4194304 < seen.count {
         return seen;
     }
     Seen {
@@ -173,12 +141,8 @@ fn labels_of(pool: &[i32], from: usize, end: usize) -> Seen {
         first: 0,
         last: 0,
     };
-    let mut i = from;
-    while i < end {
-        if i < pool.len() {
-            seen = seen_behind(seen, pool[i]);
-        }
-        i += 1;
+    for &cell in pool.iter().take(end).skip(from) {
+        seen = seen_behind(seen, cell);
     }
     seen
 }
@@ -204,10 +168,10 @@ fn lay_heading(
     slots: u32,
 ) {
     if k < ENTRIES {
-        put_number(&mut *headings, 4 * k, small(start as u64));
-        put_number(&mut *headings, 4 * k + 1, period);
-        put_number(&mut *headings, 4 * k + 2, distance);
-        put_number(&mut *headings, 4 * k + 3, slots);
+        put(&mut *headings, 4 * k, small(start as u64));
+        put(&mut *headings, 4 * k + 1, period);
+        put(&mut *headings, 4 * k + 2, distance);
+        put(&mut *headings, 4 * k + 3, slots);
     }
 }
 
@@ -219,10 +183,10 @@ fn lay_line(
     used: usize,
     headings: &mut [u32],
     pool: &mut [i32],
-) -> Laid {
+) -> Option<Laid> {
     let period = digits(s, from);
     let distance = digits_behind(s, period.end, b' ');
-    let laid = lay_cells(s, distance.end, &mut *pool, used);
+    let laid = lay_cells(s, distance.end, &mut *pool, used)?;
     let per_turn = small(distance.value);
     let seen = labels_of(&*pool, used, laid.used);
     lay_heading(
@@ -233,25 +197,22 @@ fn lay_line(
         per_turn,
         slots_of(seen, per_turn),
     );
-    laid
+    Some(laid)
 }
 
 // Lays each line: whether all are rows, at most 64.
 fn lay_sheet(s: &[u8], headings: &mut [u32], pool: &mut [i32]) -> bool {
     let mut at = 0;
     let mut used = 0;
-    let mut k = 0;
-    while k < ENTRIES {
+    for k in 0..ENTRIES {
         if s.len() <= at {
             return true;
         }
-        let laid = lay_line(s, at, k, used, &mut *headings, &mut *pool);
-        if !laid.good {
+        let Some(laid) = lay_line(s, at, k, used, &mut *headings, &mut *pool) else {
             return false;
-        }
+        };
         at = laid.end;
         used = laid.used;
-        k += 1;
     }
     s.len() <= at
 }
@@ -259,11 +220,7 @@ fn lay_sheet(s: &[u8], headings: &mut [u32], pool: &mut [i32]) -> bool {
 fn print_verdict(rt: &(impl Print + Eprint), verdict: Verdict) -> io::Result<()> {
     match verdict {
         Verdict::Accepted => print(rt, b"accepted\n"),
-        Verdict::Wrong(entry) => {
-            print(rt, b"wrong at ")?;
-            rt.print(entry)?;
-            print(rt, b"\n")
-        }
+        Verdict::Wrong(entry) => print!(rt; "wrong at {entry}\n"),
         Verdict::Refused(number, entry) => {
             refusals::tell_at(rt, number, entry);
             Ok(())
@@ -285,21 +242,12 @@ fn check_sheet(rt: &(impl Print + Eprint), table: &[i32], sheet: &[u8]) -> io::R
     }
 }
 
-// Checks the sheet in a file that was opened.
-fn check_opened(
-    rt: &(impl Print + Eprint + Alloc),
-    table: &[i32],
-    path: &str,
-    file: &mut impl Read,
-) -> io::Result<()> {
-    let mut sheet = [0u8; SHEET_LIMIT + 1];
-    match programs::fill(file, &mut sheet) {
-        Ok(n) => check_sheet(rt, table, &sheet[..n]),
-        Err(error) => {
-            programs::tell_failure(rt, path, error);
-            Ok(())
-        }
-    }
+// Reads a file until the list is full or the file ends: how many bytes came.
+fn read(rt: &impl Files, path: &str, bytes: &mut [u8]) -> io::Result<usize>
+    ensures { IfOk result (λ n. n ≤ length bytes.new) }
+{
+    let mut file = File::open(rt, path)?;
+    programs::fill(&mut file, bytes)
 }
 
 // Checks the sheet in a file.
@@ -308,8 +256,9 @@ fn check_file(
     table: &[i32],
     path: &str,
 ) -> io::Result<()> {
-    match File::open(rt, path) {
-        Ok(mut file) => check_opened(rt, table, path, &mut file),
+    let mut sheet = [0u8; SHEET_LIMIT + 1];
+    match read(rt, path, &mut sheet) {
+        Ok(n) => check_sheet(rt, table, &sheet[..n]),
         Err(error) => {
             programs::tell_failure(rt, path, error);
             Ok(())

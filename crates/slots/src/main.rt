@@ -4,7 +4,7 @@
 
 #![tactic(auto)]
 
-use planner::{arguments, refusals};
+use planner::refusals;
 use std::env::FillError;
 use std::io;
 use std::rt::{Env, Runtime};
@@ -14,7 +14,7 @@ mod converted;
 mod finished;
 mod usage;
 
-#[derive(Clone, Copy)]
+#[derive(Clone, Copy, PartialEq)]
 enum Command {
     Rows,
     Month,
@@ -33,53 +33,26 @@ enum Command {
 
 // Which command a word names.
 fn command_of(word: &[u8]) -> Command {
-    if word.len() == 0 {
-        return Command::Nothing;
+    match word {
+        b"" => Command::Nothing,
+        b"rows" => Command::Rows,
+        b"month" => Command::Month,
+        b"up" => Command::Up,
+        b"down" => Command::Down,
+        b"late" => Command::Late,
+        b"nth" => Command::Nth,
+        b"between" => Command::Between,
+        b"picture" => Command::Picture,
+        b"append" => Command::Append,
+        b"last" => Command::Last,
+        b"check" => Command::Check,
+        _ => Command::Unknown,
     }
-    if arguments::is_word(word, b"rows") {
-        return Command::Rows;
-    }
-    if arguments::is_word(word, b"month") {
-        return Command::Month;
-    }
-    if arguments::is_word(word, b"picture") {
-        return Command::Picture;
-    }
-    if arguments::is_word(word, b"append") {
-        return Command::Append;
-    }
-    if arguments::is_word(word, b"last") {
-        return Command::Last;
-    }
-    if arguments::is_word(word, b"check") {
-        return Command::Check;
-    }
-    question_of(word)
 }
 
-// Which question a word names.
-fn question_of(word: &[u8]) -> Command {
-    if arguments::is_word(word, b"up") {
-        return Command::Up;
-    }
-    if arguments::is_word(word, b"down") {
-        return Command::Down;
-    }
-    if arguments::is_word(word, b"late") {
-        return Command::Late;
-    }
-    if arguments::is_word(word, b"nth") {
-        return Command::Nth;
-    }
-    if arguments::is_word(word, b"between") {
-        return Command::Between;
-    }
-    Command::Unknown
-}
-
-// Says on standard error what to do about a refusal; the number 0 is none.
-fn advise(rt: &impl Eprint, number: u32) {
-    if number != 0 {
+// Says on standard error what to do about a refusal.
+fn advise(rt: &impl Eprint, refusal: Option<u32>) {
+    if let Some(number) = refusal {
         refusals::advise(rt, number);
     }
 }
@@ -93,21 +66,18 @@ fn rows(rt: &impl Runtime) -> io::Result<()> {
     Ok(())
 }
 
-// Appends the table on standard input to the book that argument 2 names.
-fn append(rt: &impl Runtime) -> io::Result<()> {
+// Appends the table on standard input to the book that argument 2 names, or prints the sheet of the last one there.
+fn book(rt: &impl Runtime, command: Command) -> io::Result<()> {
     let mut name = [0u8; programs::PATH_LIMIT];
-    if let Some(path) = programs::path_at(rt, 2, "BOOK", &mut name) {
-        advise(rt, journal_store::append(rt, path)?);
-    }
-    Ok(())
-}
-
-// Prints the sheet of the last table in the book that argument 2 names.
-fn last(rt: &impl Runtime) -> io::Result<()> {
-    let mut name = [0u8; programs::PATH_LIMIT];
-    if let Some(path) = programs::path_at(rt, 2, "BOOK", &mut name) {
-        advise(rt, journal_store::last(rt, path)?);
-    }
+    let Some(path) = programs::path_at(rt, 2, "BOOK", &mut name) else {
+        return Ok(());
+    };
+    let refusal = if command == Command::Append {
+        journal_store::append(rt, path)?
+    } else {
+        journal_store::last(rt, path)?
+    };
+    advise(rt, refusal);
     Ok(())
 }
 
@@ -127,14 +97,13 @@ fn takes(command: Command, words: usize) -> bool {
 fn run(rt: &impl Runtime, command: Command) -> io::Result<()> {
     match command {
         Command::Rows => rows(rt),
-        Command::Append => append(rt),
-        Command::Last => last(rt),
+        Command::Append | Command::Last => book(rt, command),
         Command::Nothing => rt.print(usage::TEXT),
         Command::Unknown => {
             tell_usage(rt);
             Ok(())
         }
-        asked => converted::ask(rt, asked),
+        _ => converted::ask(rt, command),
     }
 }
 

@@ -1,5 +1,7 @@
 -- The test of a row, step by step.
 -- Assumes nothing.
+use Rattle.std.specs.Prelude.{is_some}
+use Rattle.std.specs.Bool.{then_some}
 use mathlib.Core.Path.{◌≡◌, refl, sym, ◌∙◌, ap, ap₂}
 use mathlib.Core.Logic.{◌⊎◌, inl, inr}
 use mathlib.Core.List.{List}
@@ -28,6 +30,11 @@ counted_is r n = refl
 and-false : (a : Bool) → a && false ≡ false
 and-false true = refl
 and-false false = refl
+
+-- an answer that a test gives
+pub some-tests : (b : Bool) (n : ℕ) → is_some (then_some b n) ≡ b
+some-tests true n = refl
+some-tests false n = refl
 
 module _ (r : Row) (n : ℕ) where
   abbrev lasts : Bool

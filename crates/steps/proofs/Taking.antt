@@ -21,7 +21,7 @@ use Rattle.calendar.specs.Outcome.Outcome.{rows}
 use Rattle.calendar.specs.Stored.{joined, headings_from, headings_after, pool_after}
 use Rattle.granules.proofs.Tests.{eqb-iff, false-iff}
 use Rattle.row_entry.specs.Stores.{Entered}
-use Rattle.row_entry.specs.declared.Appended.TheVariants as Appended
+use Rattle.std.specs.Prelude.{Ok, Err}
 use Rattle.conversion.specs.Tables.{Cleared}
 use Rattle.standing.specs.Standing.{rows_at}
 use Rattle.standing.proofs.Decides.{rows-length}
@@ -94,14 +94,14 @@ module _ (l : Lengths) (k : ℕ) (t : List ℤ) (headings : List ℕ) (pool : Li
       entered-is k t headings pool
       ∙ ap (step_to k before) (ap (λ (n : ℕ). judged before (n - length (joined before)) (entry_at t k)) (sym e) ∙ j)
 
-  pub entry-refused : (m : Refusal) (numbers : List ℕ) (cells : List ℤ) → length cells ≡ length pool → Entered t k before (Appended.Refused m) numbers cells
+  pub entry-refused : (m : Refusal) (numbers : List ℕ) (cells : List ℤ) → length cells ≡ length pool → Entered t k before (Err m) numbers cells
       → (h : List ℕ) (p : List ℤ) → Cleared (length headings) (length pool) h p
       → Gives (left (lengths_in l) now (entered k t headings pool)) (record { lengths = l; progress = Refused (number_of m) k }) h p
   entry-refused m numbers cells e j h p c =
       gives_as (record { lengths = l; progress = Refused (number_of m) k }) h p (entered-as (refused (number_of m)) cells e j.0) (gives-refused now (number_of m) k l h p c)
 
   pub entry-taken : (end : ℕ) (numbers : List ℕ) (cells : List ℤ) → length numbers ≡ length headings → length cells ≡ length pool
-      → Entered t k before (Appended.Ends end) numbers cells
+      → Entered t k before (Ok end) numbers cells
       → (x : Progress) → progress_of x ≡ behind (lengths_in l) k
       → (p : List ℤ) → p ≡ take end cells ++ replicate (length cells - end) empty
       → Gives (left (lengths_in l) now (entered k t headings pool)) (record { lengths = l; progress = x }) numbers p

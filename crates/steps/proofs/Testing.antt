@@ -1,5 +1,8 @@
 -- The test before an entry is taken, part by part.
 -- Assumes nothing.
+use Rattle.std.specs.Prelude.{Result, Some, None, Ok, Err}
+use Rattle.std.specs.Result.{result_ok}
+use Rattle.std.proofs.lemmas.Option.{none-some, same_Some}
 use mathlib.Core.Path.{◌≡◌, refl, sym, ◌∙◌, ap}
 use mathlib.Core.Bool.{Bool, true, false, ◌&&◌}
 use mathlib.Core.List.{List}
@@ -9,10 +12,13 @@ use native.Mathlib.Omega.{arith}
 use lib.IntN.{ℤ}
 use lib.ListN.{length, take}
 use lib.Seq.{take_at}
-use Rattle.calendar.specs.Limits.{pool_limit, entry_limit, heading_length}
+use Rattle.calendar.specs.Limits.{entry_limit, heading_length}
+use Rattle.calendar.specs.declared.Refusal.{Refusal}
+use Rattle.calendar.specs.Refusals.{number_of}
 use Rattle.calendar.specs.Reply.Reply.{refused, answer}
 use Rattle.calendar.specs.Stored.{joined}
 use Rattle.granules.proofs.Tests.{true≢false, ltb_iff}
+use Rattle.entries.specs.Entries.{begun_reply}
 use Rattle.row_entry.specs.Stores.{Stores, EntryDue}
 use Rattle.standing.specs.Standing.{rows_at, standing}
 use Rattle.standing.specs.Tests.{EndsAt}
@@ -21,6 +27,15 @@ use Rattle.standing.proofs.ByParts.{end_is}
 use Rattle.walks.specs.Walk.{Lengths, lengths_of, same_lengths, admits, is_entry, ready}
 use Rattle.walks.proofs.Came.{ready-iff, Admitted, admitted-gives, entry_of}
 use Rattle.walks.proofs.Calls.{stood}
+
+-- what checks 1 to 3 come to, where only their answer is kept
+pub begun-answer : (r : Result ℕ Refusal) (n : ℕ) → Some n ≡ result_ok r → begun_reply r ≡ answer n
+begun-answer (Ok m) n e = ap answer (sym (same_Some n m e))
+begun-answer (Err x) n e = absurd (none-some n (sym e))
+
+pub begun-refused : (r : Result ℕ Refusal) → None ≡ result_ok r → (m : ℕ) × (begun_reply r ≡ refused m)
+begun-refused (Ok n) e = absurd (none-some n e)
+begun-refused (Err x) e = (number_of x, refl)
 
 module _ (began : Lengths) (k : ℕ) (t : List ℤ) (headings : List ℕ) (pool : List ℤ) where
   abbrev same : Bool
@@ -93,11 +108,3 @@ module _ (began : Lengths) (k : ℕ) (t : List ℤ) (headings : List ℕ) (pool 
 
       pub entry-due : EntryDue t k headings pool used
       entry-due = record { rows = (rows_at headings pool k, rows-length headings pool k, stores); in_table = in_table; has-heading = has-heading; at-most = gives.at-most }
-
--- ---- the lists for which checks 1 to 3 passed
-
-pub headings-for : (t : List ℤ) (headings : List ℕ) (pool : List ℤ) (n k : ℕ) → admits t headings pool ≡ answer n → k < n
-    → (heading_length * k ≤ length headings) × (length pool ≤ pool_limit)
-headings-for t headings pool n k e h =
-    let g = admitted-gives t (length headings / heading_length) (length pool) n e in
-    (omega (arith, div-add-mod (length headings) heading_length, g.has-headings, h), g.at-most)

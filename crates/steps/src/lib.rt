@@ -2,16 +2,15 @@
 
 #![tactic(auto)]
 
-ghost use Rattle.std.specs.Prelude.{◌≡◌, true, ◌<◌};
+ghost use Rattle.std.specs.Prelude.{◌≡◌, true, ◌<◌, is_some, IfSome};
 ghost use Rattle.calendar.specs.Limits.{entry_limit};
 ghost use Rattle.standing.specs.Tests.{EndsAt};
 ghost use Rattle.walks.specs.Walk as W;
 ghost use Rattle.steps.specs.State.{lengths_in, progress_of, walk_of, Gives, behind};
 
 use calendar::Refusal;
-use conversion::{Appended, HEADING_LENGTH};
-use entries::{Begun, ENTRY_LENGTH};
-use standing::Stood;
+use conversion::HEADING_LENGTH;
+use entries::ENTRY_LENGTH;
 
 // How far a walk is: the entry due at the next call; the end; or a refusal, by its number and its entry. A walk with an entry due has more to do.
 #[derive(Clone, Copy)]
@@ -49,34 +48,37 @@ pub fn start(table: &[i32], headings: &mut [u32], pool: &mut [i32]) -> Walk
     let begun = entries::begin(table, headings.len() / HEADING_LENGTH, pool.len());
     conversion::clear(&mut *headings, &mut *pool);
     match begun {
-        Begun::Refused(refusal) => Walk {
+        Err(refusal) => Walk {
             lengths,
             progress: Progress::Refused(refusal.number(), 0),
         },
-        Begun::Entries(_) => Walk {
+        Ok(_) => Walk {
             lengths,
             progress: Progress::Due(0),
         },
     }
 }
 
-// The test before the entry k is taken, and the cell behind the rows that stand.
-fn is_ready(lengths: Lengths, k: u32, table: &[i32], headings: &[u32], pool: &[i32]) -> Stood
-    ensures test { result.ok ≡ W.ready (lengths_in lengths) k table.now headings.now pool.now }
-    ensures ends { result.ok ≡ true → EndsAt headings.now pool.now k result.end }
+// The cell behind the rows that stand, where the test before the entry k passes.
+fn is_ready(
+    lengths: Lengths,
+    k: u32,
+    table: &[i32],
+    headings: &[u32],
+    pool: &[i32],
+) -> Option<usize>
+    ensures test { is_some result ≡ W.ready (lengths_in lengths) k table.now headings.now pool.now }
+    ensures ends { IfSome result (EndsAt headings.now pool.now k) }
 {
     if table.len() != lengths.table
         || headings.len() != lengths.headings
         || pool.len() != lengths.pool
     {
-        return Stood { ok: false, end: 0 };
+        return None;
     }
-    let begun = entries::begin(table, headings.len() / HEADING_LENGTH, pool.len());
-    let Begun::Entries(n) = begun else {
-        return Stood { ok: false, end: 0 };
-    };
+    let n = entries::begin(table, headings.len() / HEADING_LENGTH, pool.len()).ok()?;
     if k as usize >= n {
-        return Stood { ok: false, end: 0 };
+        return None;
     }
     standing::all_stand(headings, pool, k as usize)
 }
@@ -109,14 +111,14 @@ fn take_entry(
 {
     let entry = conversion::convert_entry(table, k as usize, used, &mut *headings, &mut *pool);
     match entry {
-        Appended::Refused(refusal) => {
+        Err(refusal) => {
             conversion::clear(&mut *headings, &mut *pool);
             Walk {
                 lengths,
                 progress: Progress::Refused(refusal.number(), k),
             }
         }
-        Appended::Ends(end) => {
+        Ok(end) => {
             conversion::clear_cells(&mut *pool, end);
             Walk {
                 lengths,
@@ -130,15 +132,14 @@ fn take_entry(
 fn take_due(lengths: Lengths, k: u32, table: &[i32], headings: &mut [u32], pool: &mut [i32]) -> Walk
     ensures { Gives (W.left (lengths_in lengths) (W.lengths_of table.now headings.old pool.old) (W.stepped (lengths_in lengths) k table.now headings.old pool.old)) result headings.new pool.new }
 {
-    let stood = is_ready(lengths, k, table, headings, pool);
-    if !stood.ok {
+    let Some(used) = is_ready(lengths, k, table, headings, pool) else {
         conversion::clear(&mut *headings, &mut *pool);
         return Walk {
             lengths,
             progress: Progress::Refused(Refusal::RowNotSound.number(), k),
         };
-    }
-    take_entry(lengths, k, stood.end, table, &mut *headings, &mut *pool)
+    };
+    take_entry(lengths, k, used, table, &mut *headings, &mut *pool)
 }
 
 // One call: takes the entry that is due, and no other. First tests that the three lists have the lengths they had at the start and that the rows of the entries before stand

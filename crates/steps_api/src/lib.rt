@@ -17,20 +17,6 @@ pub const STATE_LENGTH: usize = 8;
 // What a state without a walk is answered with: refusal 13 at the entry 0.
 const NO_WALK: i64 = 1300;
 
-// How far a walk is, or that two numbers don't say.
-#[derive(Clone, Copy)]
-enum Staged {
-    At(Progress),
-    Nowhere,
-}
-
-// The walk of a state, or that there is none.
-#[derive(Clone, Copy)]
-enum Held {
-    Is(Walk),
-    Nothing,
-}
-
 // A number that is not below 0, or 0.
 fn natural(z: i64) -> usize
     ensures { result ≡ up z }
@@ -39,44 +25,41 @@ fn natural(z: i64) -> usize
 }
 
 // How far a walk is, from the first two numbers of its state.
-fn progress_in(stage: usize, number: usize) -> Staged
+fn progress_in(stage: usize, number: usize) -> Option<Progress>
     ensures { staged_as result ≡ progress_in stage number }
 {
     if stage == 1 {
         if number < 64 {
-            return Staged::At(Progress::Due(number as u32));
+            return Some(Progress::Due(number as u32));
         }
-        return Staged::Nowhere;
+        return None;
     }
     if stage == 2 {
-        return Staged::At(Progress::Done);
+        return Some(Progress::Done);
     }
     if stage != 3 {
-        return Staged::Nowhere;
+        return None;
     }
     if number < 1400 {
-        return Staged::At(Progress::Refused((number / 100) as u32, (number % 100) as u32));
+        return Some(Progress::Refused((number / 100) as u32, (number % 100) as u32));
     }
-    Staged::Nowhere
+    None
 }
 
 // The walk of a state.
-fn read(state: &[i64]) -> Held
+fn read(state: &[i64]) -> Option<Walk>
     ensures { held_as result ≡ walk_in state.now }
 {
     if state.len() != STATE_LENGTH {
-        return Held::Nothing;
+        return None;
     }
     let lengths = Lengths {
         table: natural(state[2]),
         headings: natural(state[3]),
         pool: natural(state[4]),
     };
-    let staged = progress_in(natural(state[0]), natural(state[1]));
-    match staged {
-        Staged::At(progress) => Held::Is(Walk { lengths, progress }),
-        Staged::Nowhere => Held::Nothing,
-    }
+    let progress = progress_in(natural(state[0]), natural(state[1]))?;
+    Some(Walk { lengths, progress })
 }
 
 // 0 for more, 1 for done, and 100 times a refusal's number plus its entry.
@@ -156,12 +139,12 @@ pub fn step(table: &[i32], headings: &mut [u32], pool: &mut [i32], state: &mut [
 {
     let held = read(state);
     match held {
-        Held::Is(walk) => {
+        Some(walk) => {
             let next = steps::step(walk, table, &mut *headings, &mut *pool);
             let progress = next.progress;
             write_progress(&mut *state, progress);
             code(progress)
         }
-        Held::Nothing => NO_WALK,
+        None => NO_WALK,
     }
 }

@@ -25,17 +25,13 @@ fn other_from(cells: &[i32], start: usize, z: i32) -> usize
     requires { start ≤ length cells.now }
     ensures { result ≡ start + run (passable z) (drop start cells.now) }
 {
-    let mut i = start;
-    while i < cells.len() {
+    for i in start..cells.len() {
         let cell = cells[i];
-        if cell != z {
-            if cell != Calendar::EMPTY {
-                return i;
-            }
+        if cell != z && cell != Calendar::EMPTY {
+            return i;
         }
-        i += 1;
     }
-    i
+    cells.len()
 }
 
 // The next instant with another label than the cursor's, which has one. If the rest of the turn has none, the next turn has, where labels are
@@ -77,7 +73,7 @@ pub fn cursor_on(cells: &[i32], period: i64, distance: i64, c: Cursor, steps: i6
     let index = c.index + steps;
     if index < period {
         return Cursor {
-            index: index,
+            index,
             rise: c.rise,
         };
     }

@@ -1,9 +1,8 @@
 -- What a conversion and a sheet for C answer and leave, as it is computed.
-use Rattle.std.specs.Prelude.{◌≡◌, List, ℕ, ℤ}
+use Rattle.std.specs.Prelude.{◌≡◌, List, ℕ, ℤ, Option}
+use Rattle.conversion.specs.Conversion.{Conversion}
 use Rattle.conversion.specs.Left.{Left}
-use Rattle.conversion.specs.declared.Conversion.{Conversion}
 use Rattle.sheet_text.specs.Left.{SheetLeft}
-use Rattle.sheet_text.specs.declared.Written.{Written}
 use Rattle.table_api.specs.Codes.{conversion_code, sheet_code}
 
 -- the contract of `table_api::convert`: the number of an answer, and the lists that `convert` leaves with that answer
@@ -12,4 +11,4 @@ LeftCoded t h p r headings pool = (c : Conversion) × (r ≡ conversion_code c) 
 
 -- the contract of `table_api::sheet`: the number of an answer, and the list that `sheet` leaves with that answer
 abbrev pub SheetCoded : List ℕ → ℕ → ℤ → List ℕ → Type 0
-SheetCoded s m r out = (w : Written) × (r ≡ sheet_code w) × SheetLeft s m w out
+SheetCoded s m r out = (w : Option ℕ) × (r ≡ sheet_code w) × SheetLeft s m w out

@@ -7,16 +7,15 @@ ghost use Rattle.std.specs.Prelude.{◌≡◌, length};
 ghost use Rattle.table_api.specs.Codes.{conversion_code};
 ghost use Rattle.table_api.specs.LeftCoded.{LeftCoded, SheetCoded};
 
-use conversion::Conversion;
-use sheet_text::Written;
+use conversion::ConversionError;
 
 // What converting came to as a number.
-fn conversion_code(c: Conversion) -> i64
+fn conversion_code(c: Result<(), ConversionError>) -> i64
     ensures { result ≡ conversion_code c }
 {
     match c {
-        Conversion::Refused(number, entry) => 100 * (number as i64) + entry as i64,
-        Conversion::Converted => 0,
+        Err(ConversionError { number, entry }) => 100 * (number as i64) + entry as i64,
+        Ok(()) => 0,
     }
 }
 
@@ -35,7 +34,7 @@ pub fn sheet(text: &[u8], out: &mut [u8]) -> i64
 {
     let written = sheet_text::sheet(text, &mut *out);
     match written {
-        Written::Bytes(n) => n as i64,
-        Written::TooShort => -1,
+        Some(n) => n as i64,
+        None => -1,
     }
 }

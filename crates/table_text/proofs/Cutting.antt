@@ -1,7 +1,7 @@
 -- Pieces cut off one by one at the places where a byte stands, and the numbers of a line read one by one.
 use mathlib.Core.Path.{◌≡◌, refl, sym, ap, ap₂, ◌∙◌}
 use mathlib.Core.Logic.{⊎_elim}
-use mathlib.Core.Bool.{true, cond}
+use mathlib.Core.Bool.{Bool, true, false, cond}
 use mathlib.Core.Option.{Option, none, some}
 use mathlib.Core.List.{List, [], ◌∷◌, ◌++◌, append_assoc, append-nil}
 use Prim.Native.Nat.{ℕ, suc, ◌+◌, ◌-◌, ◌<◌}
@@ -21,8 +21,9 @@ use Rattle.table_text.specs.Numerals.{fits}
 use Rattle.table_text.specs.Words.{space}
 use Rattle.table_text.specs.Parse.{number, split, prepended, number_before, numbers, of_six, entry_of}
 use Rattle.table_text.specs.Answers.{number_answer}
-use Rattle.table_text.specs.Lines.{EndsAt}
-use Rattle.table_text.specs.declared.number.Number.TheVariants.{Value, Bad}
+use Rattle.table_text.specs.Lines.{EndsAt, line_answer}
+use Rattle.std.specs.Prelude.{Some, None}
+use Rattle.std.specs.Bool.{then_some}
 use Rattle.table_text.proofs.Numbers.{number-back}
 use Rattle.table_text.proofs.Pieces.{Without, first_piece, split-seam, split-last}
 
@@ -65,11 +66,11 @@ abbrev pub ahead : List ℤ → Option (List ℤ) → Option (List ℤ)
 ahead acc none = none
 ahead acc (some l) = some (acc ++ l)
 
-pub answer-value : (o : Option ℤ) (v : ℤ) → number_answer o ≡ Value v → o ≡ some v
+pub answer-value : (o : Option ℤ) (v : ℤ) → number_answer o ≡ Some v → o ≡ some v
 answer-value none v e = let z : ◌≡◌ {A = ℕ} 0 1 = cc in absurd (omega arith)
 answer-value (some z) v e = ap {B = Option ℤ} some (let q : z ≡ v = cc in q)
 
-pub answer-bad : (o : Option ℤ) → number_answer o ≡ Bad → o ≡ none
+pub answer-bad : (o : Option ℤ) → number_answer o ≡ None → o ≡ none
 answer-bad none e = refl
 answer-bad (some z) e = let y : ◌≡◌ {A = ℕ} 0 1 = cc in absurd (omega arith)
 
@@ -146,8 +147,12 @@ module _ (l : List ℤ) (k : ℕ) (v : ℤ) (six : length l ≡ 6) (h : k < 6) w
   all-stored : k + 1 ≡ 6 → set l k v ≡ take k l ++ (v ∷ [])
   all-stored e = set_split l k v (omega arith) ∙ ap (λ (m : List ℤ). take k l ++ (v ∷ m)) (drop_of_length-le l {i = suc k} (omega arith))
 
-  pub last_stored : cond (eqb (k + 1) 6) (some (set l k v)) none ≡ of_six (some (take k l ++ (v ∷ [])))
-  last_stored = rw length-stored (⊎_elim (λ t. rw (t, all-stored (eqb-true (k + 1) 6 t))) (λ t. rw t) (true-or-false (eqb (k + 1) 6)))
+  pub last_stored : line_answer (then_some (eqb (k + 1) 6) (set l k v)) ≡ of_six (some (take k l ++ (v ∷ [])))
+  last_stored = rw length-stored (go (eqb (k + 1) 6) (λ t. all-stored (eqb-true (k + 1) 6 t)))
+    where
+      go : (b : Bool) → (b ≡ true → set l k v ≡ take k l ++ (v ∷ [])) → line_answer (then_some b (set l k v)) ≡ cond b (some (take k l ++ (v ∷ []))) none
+      go true f = ap {B = Option (List ℤ)} some (f refl)
+      go false f = refl
 
 -- ---- a number that is read has 32 bits
 

@@ -16,8 +16,7 @@ use Rattle.table_text.specs.Parse.{split, Reading, entry_of, entry_before, read_
 use Rattle.table_text.specs.Parse.Reading.{bad, table}
 use Rattle.table_text.specs.Lines.{EndsAt}
 use Rattle.table_text.specs.Tables.{Left}
-use Rattle.table_text.specs.declared.table.Reading.{Reading as Answer}
-use Rattle.table_text.specs.declared.table.Reading.TheVariants.{Bad, Table}
+use Rattle.std.specs.Prelude.{Result, Ok, Err}
 use Rattle.table_text.proofs.Decimal.{starts}
 use Rattle.table_text.proofs.Numbers.{numeral-pos, numeral-negsuc}
 use Rattle.table_text.proofs.Pieces.{first_piece, split-nil}
@@ -120,12 +119,12 @@ module _ {lent : ℕ} {text : List ℕ} {from at number : ℕ} {numbers : List �
   pub gathered-length : at ≤ lent → length numbers ≡ lent
   gathered-length h = ap length g.stored ∙ length-append g.read (replicate (lent - at) (pos 0)) ∙ ap₂ (λ (a b : ℕ). a + b) g.count (length-replicate (lent - at) (pos 0)) ∙ (let e : at + (lent - at) ≡ lent = omega arith in e)
 
-  pub gathered-all : length text ≤ from → Left lent (read_lines 0 (split line_feed text)) (Table at) numbers
+  pub gathered-all : length text ≤ from → Left lent (read_lines 0 (split line_feed text)) (Ok at) numbers
   gathered-all h =
       let all : read_lines 0 (split line_feed text) ≡ table g.read = g.reads ∙ ap (after g.read) (no_more number text from h) ∙ ap {B = Reading} table (append-nil g.read) in
-      rw all (record { answer = ap Table (sym g.count); numbers = g.stored ∙ ap (λ (n : ℕ). g.read ++ replicate (lent - n) (pos 0)) (sym g.count) })
+      rw all (record { answer = ap Ok (sym g.count); numbers = g.stored ∙ ap (λ (n : ℕ). g.read ++ replicate (lent - n) (pos 0)) (sym g.count) })
 
-  pub gathered-bad : read_lines number (split line_feed (drop from text)) ≡ bad number → (cleared : List ℤ) → cleared ≡ replicate lent (pos 0) → Left lent (read_lines 0 (split line_feed text)) (Bad number) cleared
+  pub gathered-bad : read_lines number (split line_feed (drop from text)) ≡ bad number → (cleared : List ℤ) → cleared ≡ replicate lent (pos 0) → Left lent (read_lines 0 (split line_feed text)) (Err number) cleared
   gathered-bad e cleared q = rw (g.reads ∙ ap (after g.read) e) (record { answer = refl; numbers = q ∙ ap (λ (n : ℕ). replicate n (pos 0)) (sym (sub-zero lent)) })
 
   -- an entry's line has 12 bytes or more
@@ -160,8 +159,8 @@ module _ {lent : ℕ} {text : List ℕ} {from at number : ℕ} {numbers : List �
 
 -- ---- the whole text
 
-pub read-long : (lent : ℕ) (text : List ℕ) (l : List ℤ) → text_limit < length text → l ≡ replicate lent (pos 0) → Left lent (parse text) (Bad 0) l
+pub read-long : (lent : ℕ) (text : List ℕ) (l : List ℤ) → text_limit < length text → l ≡ replicate lent (pos 0) → Left lent (parse text) (Err 0) l
 read-long lent text l h e = rw (parse-long text h) (record { answer = refl; numbers = e ∙ ap (λ (n : ℕ). replicate n (pos 0)) (sym (sub-zero lent)) })
 
-pub read_short : (lent : ℕ) (text : List ℕ) (a : Answer) (l : List ℤ) → length text ≤ text_limit → Left lent (read_lines 0 (split line_feed text)) a l → Left lent (parse text) a l
+pub read_short : (lent : ℕ) (text : List ℕ) (a : (Result ℕ ℕ)) (l : List ℤ) → length text ≤ text_limit → Left lent (read_lines 0 (split line_feed text)) a l → Left lent (parse text) a l
 read_short lent text a l h e = rw (parse-short text h) e

@@ -6,4 +6,4 @@ mod entry;
 mod number;
 mod table;
 
-pub use table::{Reading, TABLE_LENGTH, TEXT_LIMIT, read_table};
+pub use table::{TABLE_LENGTH, TEXT_LIMIT, read_table};

@@ -3,7 +3,7 @@
 
 #![tactic(auto)]
 
-use conversion::{Conversion, HEADING_LENGTH};
+use conversion::{ConversionError, HEADING_LENGTH};
 use printing::{print, print_refusal, print_turn};
 use std::io;
 
@@ -13,22 +13,13 @@ mod tables;
 const ENTRY_LENGTH: usize = 6;
 
 // The row of a heading.
-fn print_row(
-    rt: &impl Print,
-    start: u32,
-    period: u32,
-    distance: u32,
-    granules: u32,
-    pool: &[i32],
-) -> io::Result<()> {
-    rt.print(period)?;
-    print(rt, b" ")?;
-    rt.print(distance)?;
-    print(rt, b" ")?;
-    rt.print(granules)?;
-    let from = start as usize;
-    if from <= pool.len() {
-        print_turn(rt, &pool[from..], period as usize, 0, 0)?;
+fn print_row(rt: &impl Print, heading: &[u32], pool: &[i32]) -> io::Result<()> {
+    let &[start, period, distance, granules] = heading else {
+        return Ok(());
+    };
+    print!(rt; "{period} {distance} {granules}")?;
+    if let Some(cells) = pool.get(start as usize..) {
+        print_turn(rt, cells, period as usize, 0, 0)?;
         print(rt, b"\n")?;
     }
     Ok(())
@@ -36,17 +27,8 @@ fn print_row(
 
 // The rows of these headings.
 fn print_rows(rt: &impl Print, headings: &[u32], pool: &[i32]) -> io::Result<()> {
-    let mut at = 0;
-    while HEADING_LENGTH <= headings.len() - at {
-        print_row(
-            rt,
-            headings[at],
-            headings[at + 1],
-            headings[at + 2],
-            headings[at + 3],
-            pool,
-        )?;
-        at += HEADING_LENGTH;
+    for heading in headings.chunks_exact(HEADING_LENGTH) {
+        print_row(rt, heading, pool)?;
     }
     Ok(())
 }
@@ -58,11 +40,10 @@ fn print_table(
     headings: &mut [u32],
     pool: &mut [i32],
 ) -> io::Result<()> {
-    let converted = conversion::convert(table, &mut *headings, &mut *pool);
-    let n = table.len() / ENTRY_LENGTH * HEADING_LENGTH;
-    match converted {
-        Conversion::Refused(number, entry) => print_refusal(rt, number, entry),
-        Conversion::Converted => {
+    match conversion::convert(table, &mut *headings, &mut *pool) {
+        Err(ConversionError { number, entry }) => print_refusal(rt, number, entry),
+        Ok(()) => {
+            let n = table.len() / ENTRY_LENGTH * HEADING_LENGTH;
             if n <= headings.len() {
                 print_rows(rt, &headings[..n], &pool[..])?;
             }
@@ -81,9 +62,7 @@ fn print_case(
 ) -> io::Result<()> {
     let mut numbers = [1u32; tables::HEADINGS];
     let mut pool = [1i32; tables::CELLS];
-    print(rt, b"table ")?;
-    rt.print(i)?;
-    print(rt, b"\n")?;
+    print!(rt; "table {i}\n")?;
     if headings <= tables::HEADINGS && cells <= tables::CELLS {
         print_table(rt, table, &mut numbers[..headings], &mut pool[..cells])?;
     }
@@ -92,23 +71,13 @@ fn print_case(
 
 // All tables, which stand one behind the other, by their sizes: of each its length and those of its headings and its pool.
 fn print_cases(rt: &impl Print, numbers: &[i32], sizes: &[usize]) -> io::Result<()> {
-    let mut start = 0;
-    let mut at = 0;
-    while 3 <= sizes.len() - at {
-        let length = sizes[at];
-        if numbers.len() - start < length {
+    let mut rest = numbers;
+    for (i, size) in sizes.chunks_exact(3).enumerate() {
+        let Some((table, behind)) = rest.split_at_checked(size[0]) else {
             return Ok(());
-        }
-        let end = start + length;
-        print_case(
-            rt,
-            at / 3,
-            &numbers[start..end],
-            sizes[at + 1],
-            sizes[at + 2],
-        )?;
-        start = end;
-        at += 3;
+        };
+        print_case(rt, i, table, size[1], size[2])?;
+        rest = behind;
     }
     Ok(())
 }

@@ -15,9 +15,9 @@ use Rattle.algebra.specs.TableMeaning.{Meant, TableReply, TableMeans}
 use Rattle.algebra.specs.TableMeaning.TableReply.{refused_at, means}
 use Rattle.algebra.specs.Agrees.{Agrees}
 use Rattle.algebra.proofs.Demand2 as definitions
+use Rattle.conversion.specs.Conversion.{Converted}
 use Rattle.conversion.specs.Shows.{ShowsRows}
 use Rattle.conversion.specs.Left.{Left}
-use Rattle.conversion.specs.declared.Conversion.TheVariants.{Converted}
 use Rattle.conversion.proofs.LeftRows.{shows-rows}
 use Rattle.conversion.proofs.Demands.{demand-2-only, converted-means}
 use Rattle.verdicts.specs.Check.{check}

@@ -14,8 +14,8 @@ use Rattle.calendar.specs.Granules.{granules}
 use Rattle.granules.proofs.Tests.{decided, ltb_iff}
 use Rattle.granules.proofs.Equal.{least-row-unique}
 use Rattle.algebra.specs.TableMeaning.{Meant, nothing}
+use Rattle.conversion.specs.Conversion.{Conversion}
 use Rattle.conversion.specs.Shows.{start_at, period_at, distance_at, granules_at, end_at, row_at, ShowsRows}
-use Rattle.conversion.specs.declared.Conversion.{Conversion}
 use Rattle.conversion.proofs.LeftRows.{labels-counted}
 
 lt-or-ge : (i n : ℕ) → (i < n) ⊎ (n ≤ i)

@@ -6,8 +6,8 @@ use Rattle.calendar.specs.Table.{admitted}
 use Rattle.algebra.specs.TableMeaning.{Meant, nothing, Entries, TableMeans}
 use Rattle.algebra.specs.TableMeaning.TableReply.{refused_at, means}
 use Rattle.algebra.specs.Represents.{Represents, CountsLabels}
+use Rattle.conversion.specs.Conversion.{Converted}
 use Rattle.conversion.specs.Shows.{start_at, distance_at, granules_at, end_at, row_at, ShowsRows}
-use Rattle.conversion.specs.declared.Conversion.TheVariants.{Converted}
 use Rattle.verdicts.specs.declared.Verdict.{Verdict}
 use Rattle.verdicts.specs.declared.Verdict.TheVariants.{Accepted, Refused, Wrong}
 

@@ -2,10 +2,9 @@
 
 #![tactic(auto)]
 
-ghost use Rattle.std.specs.Prelude.{◌≡◌, cond, ◌*◌, ◌<◌, ◌^◌, take, drop};
+ghost use Rattle.std.specs.Prelude.{◌≡◌, ◌*◌, ◌<◌, ◌^◌, take, drop};
 ghost use Rattle.calendar.specs.Limits.{heading_length};
 ghost use Rattle.headings.specs.Records.{numbers_of};
-ghost use Rattle.headings.specs.LeftRecords.{record_at};
 ghost use Rattle.heading_records.specs.Reading.{at_most};
 ghost use Rattle.walks.specs.Walk as W;
 ghost use Rattle.steps.specs.State.{progress_of, walk_of, Gives};
@@ -118,48 +117,14 @@ fn step_read(walk: Walk, table: &[i32], read: Read, lent: usize, pool: &mut [i32
     }
 }
 
-// How many of the headings that are lent are written.
-fn count(p: Passed, lent: usize) -> usize
-    ensures { result ≡ cond p.kept 0 lent }
-{
-    if p.kept {
-        return 0;
-    }
-    lent
-}
-
-// The i-th heading; those past the numbers are zero.
-fn heading_at(p: Passed, i: usize) -> Heading
-    ensures { result ≡ record_at p.numbers i }
-{
-    if i < ENTRY_LIMIT {
-        let at = HEADING_LENGTH * i;
-        Heading {
-            start: p.numbers[at],
-            period: p.numbers[at + 1],
-            distance: p.numbers[at + 2],
-            granules: p.numbers[at + 3],
-        }
-    } else {
-        Heading {
-            start: 0,
-            period: 0,
-            distance: 0,
-            granules: 0,
-        }
-    }
-}
-
 // Writes every heading, unless they are to stay.
 fn write_all(headings: &mut [Heading], p: Passed)
     ensures { headings.new ≡ written p headings.old }
 {
-    let n = count(p, headings.len());
-    let mut i: usize = 0;
-    while i < n {
-        headings[i] = heading_at(p, i);
-        i += 1;
+    if p.kept {
+        return;
     }
+    headings::write_all(headings, &p.numbers);
 }
 
 // Begins a walk over a table, as `steps::start` does, with a record for each heading: refuses 1, 2 and 3, with entry 0;

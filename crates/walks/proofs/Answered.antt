@@ -30,8 +30,8 @@ use Rattle.walks.specs.Walk.Progress.{done}
 use Rattle.calendar.specs.Reply.Reply.{answer}
 use Rattle.laws.specs.Answered.{Answered}
 use Rattle.conversion.specs.Left as C
+use Rattle.conversion.specs.Conversion.{Converted}
 use Rattle.conversion.specs.Answers.{answered}
-use Rattle.conversion.specs.declared.Conversion.TheVariants.{Converted}
 use Rattle.conversion.proofs.Demands.{converted-means}
 
 represented-least : (ms : List Meant) (l : List Row) → RepresentsAll ms l → (r : Row) → Memᴰ r l → (least r).period ≡ r.period

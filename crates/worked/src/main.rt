@@ -3,7 +3,7 @@
 
 #![tactic(auto)]
 
-use conversion::{Conversion, HEADING_LENGTH};
+use conversion::HEADING_LENGTH;
 use printing::{print, print_turn};
 use std::io;
 
@@ -26,36 +26,8 @@ const ENTRIES: [[i32; 6]; 15] = [
     [11, 0, 2, 0, 0, 0], // 14: 0 - 2
 ];
 
-// The entries, one behind the other.
-fn table() -> [i32; 90] {
-    let entries = ENTRIES;
-    let mut numbers = [0i32; 90];
-    let mut i = 0;
-    while i < 90 {
-        let k = i / 6;
-        if k < 15 {
-            let entry = entries[k];
-            numbers[i] = entry[i % 6];
-        }
-        i += 1;
-    }
-    numbers
-}
-
-// Three turns of the row of a heading.
-fn print_turns(
-    rt: &impl Print,
-    start: u32,
-    period: u32,
-    distance: u32,
-    pool: &[i32],
-) -> io::Result<()> {
-    let from = start as usize;
-    if pool.len() < from {
-        return Ok(());
-    }
-    let cells = &pool[from..];
-    let n = period as usize;
+// Three turns of a row.
+fn print_turns(rt: &impl Print, cells: &[i32], n: usize, distance: u32) -> io::Result<()> {
     print_turn(rt, cells, n, distance, 0)?;
     print(rt, b" |")?;
     print_turn(rt, cells, n, 0, 0)?;
@@ -63,76 +35,52 @@ fn print_turns(
     print_turn(rt, cells, n, 0, distance)
 }
 
-fn print_row(
-    rt: &impl Print,
-    name: &[u8],
-    start: u32,
-    period: u32,
-    distance: u32,
-    granules: u32,
-    pool: &[i32],
-) -> io::Result<()> {
-    print(rt, name)?;
-    print(rt, b": period ")?;
-    rt.print(period)?;
-    print(rt, b", distance ")?;
-    rt.print(distance)?;
-    print(rt, b", slots ")?;
-    rt.print(granules)?;
-    print(rt, b"\n   ")?;
-    print_turns(rt, start, period, distance, pool)?;
+// The row of a heading.
+fn print_row(rt: &impl Print, name: &str, heading: &[u32], pool: &[i32]) -> io::Result<()> {
+    let &[start, period, distance, granules] = heading else {
+        return Ok(());
+    };
+    print!(rt; "{name}: period {period}, distance {distance}, slots {granules}\n   ")?;
+    if let Some(cells) = pool.get(start as usize..) {
+        print_turns(rt, cells, period as usize, distance)?;
+    }
     print(rt, b"\n")
 }
 
 // The row of the entry k.
 fn print_entry(
     rt: &impl Print,
-    name: &[u8],
+    name: &str,
     k: usize,
     headings: &[u32],
     pool: &[i32],
 ) -> io::Result<()> {
-    if k < headings.len() / HEADING_LENGTH {
-        let at = k * HEADING_LENGTH;
-        print_row(
-            rt,
-            name,
-            headings[at],
-            headings[at + 1],
-            headings[at + 2],
-            headings[at + 3],
-            pool,
-        )?;
+    match headings.chunks_exact(HEADING_LENGTH).nth(k) {
+        Some(heading) => print_row(rt, name, heading, pool),
+        None => Ok(()),
     }
-    Ok(())
 }
 
 fn print_rows(rt: &impl Print, headings: &[u32], pool: &[i32]) -> io::Result<()> {
-    print_entry(rt, b"W = group 7 of bottom", 1, headings, pool)?;
+    print_entry(rt, "W = group 7 of bottom", 1, headings, pool)?;
     print_entry(
         rt,
-        b"B = select-down x=1 y=5 of bottom by W",
+        "B = select-down x=1 y=5 of bottom by W",
         2,
         headings,
         pool,
     )?;
-    print_entry(rt, b"C = renumber B at 1", 3, headings, pool)?;
-    print_entry(rt, b"renumber B at 6", 4, headings, pool)?;
-    print_entry(rt, b"group 5 of C", 5, headings, pool)?;
-    print_entry(rt, b"group 3 of C", 6, headings, pool)?;
-    print_entry(rt, b"odd days", 8, headings, pool)?;
-    print_entry(rt, b"even days", 9, headings, pool)?;
-    print_entry(rt, b"union of odd days and even days", 10, headings, pool)?;
-    print_entry(
-        rt,
-        b"alter bottom, group 2, x=3 y=2 z=1",
-        11,
-        headings,
-        pool,
-    )?;
-    print_entry(rt, b"combine W with group 2", 12, headings, pool)?;
-    print_entry(rt, b"anchor of bottom by odd days", 13, headings, pool)?;
-    print_entry(rt, b"bottom - B", 14, headings, pool)
+    print_entry(rt, "C = renumber B at 1", 3, headings, pool)?;
+    print_entry(rt, "renumber B at 6", 4, headings, pool)?;
+    print_entry(rt, "group 5 of C", 5, headings, pool)?;
+    print_entry(rt, "group 3 of C", 6, headings, pool)?;
+    print_entry(rt, "odd days", 8, headings, pool)?;
+    print_entry(rt, "even days", 9, headings, pool)?;
+    print_entry(rt, "union of odd days and even days", 10, headings, pool)?;
+    print_entry(rt, "alter bottom, group 2, x=3 y=2 z=1", 11, headings, pool)?;
+    print_entry(rt, "combine W with group 2", 12, headings, pool)?;
+    print_entry(rt, "anchor of bottom by odd days", 13, headings, pool)?;
+    print_entry(rt, "bottom - B", 14, headings, pool)
 }
 
 // Converts the table and prints what comes of it.
@@ -142,16 +90,15 @@ fn print_table(
     headings: &mut [u32],
     pool: &mut [i32],
 ) -> io::Result<()> {
-    let converted = conversion::convert(table, &mut *headings, &mut *pool);
-    match converted {
-        Conversion::Refused(_, _) => print(rt, b"refused\n"),
-        Conversion::Converted => print_rows(rt, &headings[..], &pool[..]),
+    match conversion::convert(table, &mut *headings, &mut *pool) {
+        Err(_) => print(rt, b"refused\n"),
+        Ok(()) => print_rows(rt, &headings[..], &pool[..]),
     }
 }
 
 fn main(rt: HostRuntime) -> io::Result<()> {
-    let numbers = table();
+    let entries = ENTRIES;
     let mut headings = [0u32; HEADING_LENGTH * 15];
     let mut pool = [0i32; 128];
-    print_table(&rt, &numbers, &mut headings, &mut pool)
+    print_table(&rt, entries.as_flattened(), &mut headings, &mut pool)
 }

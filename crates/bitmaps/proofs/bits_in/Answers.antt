@@ -3,7 +3,7 @@
 use Rattle.bitmaps.specs.Zeros.{BitsIn, SomeWord}
 use Rattle.bitmaps.proofs.Words.{clear-more}
 use Prim.Native.Nat.{ℕ, ◌+◌, ◌≤◌, ◌<◌}
-use mathlib.Core.Path.{◌≡◌, ap, ◌∙◌, subst}
+use mathlib.Core.Path.{◌≡◌, ap, ◌∙◌}
 use mathlib.Core.List.{List}
 use native.Mathlib.Omega.{arith}
 use native.Mathlib.Decide.{dec_lt}
@@ -26,17 +26,5 @@ more words i m bits low b = record { none = λ e. let n = neither _ _ e in clear
         let e = ap (λ (n : ℕ). bit_or n (get_or words m 0)) z ∙ or_zero_l (get_or words m 0) in
         (m, low, omega arith, omega (arith, e))
 
-pub loop-m-init : goal.loop-m-init
-loop-m-init c = (omega arith, omega arith, record { none = λ e n a b. absurd (omega arith); some = λ h. absurd (omega arith) })
-
 pub loop-m-preserved : goal.loop-m-preserved
-loop-m-preserved c =
-    let k = c.loop-m in
-    (omega arith, omega arith, more _ _ _ _ k.invariant.0 k.invariant.2)
-
-pub returns : goal.returns
-returns c =
-    let k = c.loop-m in
-    let s = c.args in
-    let e : k.m ≡ s.j = omega arith in
-    subst (λ (n : ℕ). BitsIn s.words.now s.i n k.bits) e k.invariant.2
+loop-m-preserved c = more _ _ _ _ c.loop-m.auto.m c.loop-m.invariant

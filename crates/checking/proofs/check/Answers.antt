@@ -9,28 +9,28 @@ use Rattle.calendar.specs.Table.{admitted}
 use Rattle.entries.specs.Entries.{begun_reply}
 use Rattle.checking.proofs.Table.{check-refused, check-admitted, admitted-claimed}
 use Rattle.checking.proofs.check.Goals as goal
-use Rattle.checking.proofs.check.Goals.{After-begin-begun, In-Entries}
+use Rattle.checking.proofs.check.Goals.{After-begin-begun, In-Ok}
 
-pub returns-in-Refused : goal.returns-in-Refused
-returns-in-Refused c =
-    let b = (goal.at.returns-in-Refused c).After-begin-begun in
+pub returns-in-Err : goal.returns-in-Err
+returns-in-Err c =
+    let b = (goal.at.returns-in-Err c).After-begin-begun in
     let a = b.args in
-    rw c.number.ensures (check-refused a.table.now a.headings.now a.pool.now _ (sym b.begin-begun.ensures ∙ ap begun_reply c.in-Refused.is))
+    rw c.number.ensures (check-refused a.table.now a.headings.now a.pool.now _ (sym b.begin-begun.ensures ∙ ap begun_reply c.in-Err.is))
 
-abbrev count : In-Entries → ℕ
-count c = c.in-Entries.n
+abbrev count : In-Ok → ℕ
+count c = c.in-Ok.n
 
-passes : (c : In-Entries) → let a = c.args in
+passes : (c : In-Ok) → let a = c.args in
     admitted a.table.now (length a.headings.now / heading_length) (length a.pool.now) ≡ answer (count c)
-passes c = sym c.begin-begun.ensures ∙ ap begun_reply c.in-Entries.is
+passes c = sym c.begin-begun.ensures ∙ ap begun_reply c.in-Ok.is
 
 pub check_entries-requires : goal.check_entries-requires
 check_entries-requires c =
     let a = c.args in
     admitted-claimed a.table.now a.headings.now a.pool.now (count c) (passes c)
 
-pub returns-in-Entries : goal.returns-in-Entries
-returns-in-Entries c =
-    let k = (goal.at.returns-in-Entries c).In-Entries in
+pub returns-in-Ok : goal.returns-in-Ok
+returns-in-Ok c =
+    let k = (goal.at.returns-in-Ok c).In-Ok in
     let a = k.args in
     c.check_entries.ensures ∙ sym (check-admitted a.table.now a.headings.now a.pool.now (count k) (passes k))

@@ -1,5 +1,7 @@
 -- `checking::check_entries` meets its contract. The loop's invariant: the entries before k are right, and the others decide the verdict.
 -- Assumes nothing.
+use Rattle.calendar.specs.declared.Refusal.{Refusal}
+use Rattle.std.specs.Prelude.{Ok, ℕ, Option, Result}
 use mathlib.Core.Path.{◌≡◌, sym, ◌∙◌, ap, subst}
 use mathlib.Core.List.{[]}
 use mathlib.Core.Bool.{Bool, cond}
@@ -11,10 +13,9 @@ use Rattle.calendar.specs.Outcome.{judged}
 use Rattle.verdicts.specs.Check.{check_entries}
 use Rattle.verdicts.specs.declared.Verdict.TheVariants.{Accepted, Wrong}
 use Rattle.checking.specs.Claims.{Judges}
-use Rattle.checking.specs.declared.entry.Judged.{Judged}
 use Rattle.checking.proofs.Table.{checked-none, entry-due, entry-refused, entry-wrong, entry-right, all_right}
 use Rattle.checking.proofs.check_entries.Goals as goal
-use Rattle.checking.proofs.check_entries.Goals.{After-check_entry-judged, After-number, After-rest_is_empty, At-loop-k, In-Right, Start}
+use Rattle.checking.proofs.check_entries.Goals.{After-check_entry-judged, After-number, After-rest_is_empty, At-loop-k, In-Ok-Some, Start}
 
 abbrev At-loop : Type 0
 At-loop = At-loop-k
@@ -35,7 +36,7 @@ check_entry-judged-requires c = entry-due _ _ _ _ _ _ (begun (goal.at.check_entr
 abbrev at-loop : After-entry → At-loop
 at-loop c = (goal.at.After-check_entry-judged c).At-loop-k
 
-abbrev Says : After-entry → Judged → Type 0
+abbrev Says : After-entry → Result (Option ℕ) Refusal → Type 0
 Says c x =
     let l = at-loop c in
     let a = (begun l).args in
@@ -51,27 +52,27 @@ refusing c = (goal.at.After-number c).After-check_entry-judged
 pub overflow_cast-result : goal.overflow_cast-result
 overflow_cast-result c = let l = at-loop (refusing c) in omega (arith, l.loop-k.invariant.at-most, (begun l).requires.at-most)
 
-pub returns-in-Refused : goal.returns-in-Refused
-returns-in-Refused c =
+pub returns-in-Err : goal.returns-in-Err
+returns-in-Err c =
     let e = refusing c in
     let l = at-loop e in
     rw c.number.ensures
-    (entry-refused _ _ _ _ _ _ (begun l).requires l.loop-k.invariant e.loop-k-test.true c.in-Refused.refusal
-    (subst (Says e) c.in-Refused.is (says e)))
+    (entry-refused _ _ _ _ _ _ (begun l).requires l.loop-k.invariant e.loop-k-test.true c.in-Err.refusal
+    (subst (Says e) c.in-Err.is (says e)))
 
 -- ---- its heading or its row is wrong
-pub overflow_cast-result-in-Wrong : goal.overflow_cast-result-in-Wrong
-overflow_cast-result-in-Wrong c = let l = at-loop (goal.at.overflow_cast-result-in-Wrong c).After-check_entry-judged in omega (arith, l.loop-k.invariant.at-most, (begun l).requires.at-most)
+pub overflow_cast-result-in-Ok-None : goal.overflow_cast-result-in-Ok-None
+overflow_cast-result-in-Ok-None c = let l = at-loop (goal.at.overflow_cast-result-in-Ok-None c).After-check_entry-judged in omega (arith, l.loop-k.invariant.at-most, (begun l).requires.at-most)
 
-pub returns-in-Wrong : goal.returns-in-Wrong
-returns-in-Wrong c =
-    let e = (goal.at.returns-in-Wrong c).After-check_entry-judged in
+pub returns-in-Ok-None : goal.returns-in-Ok-None
+returns-in-Ok-None c =
+    let e = (goal.at.returns-in-Ok-None c).After-check_entry-judged in
     let l = at-loop e in
-    entry-wrong _ _ _ _ _ _ (begun l).requires l.loop-k.invariant e.loop-k-test.true (subst (Says e) c.in-Wrong.is (says e))
+    entry-wrong _ _ _ _ _ _ (begun l).requires l.loop-k.invariant e.loop-k-test.true (subst (Says e) (c.in-Ok-None.is ∙ ap Ok (rw c.in-Ok-None.is at c.in-Ok-None.field-0-is)) (says e))
 
 -- ---- it is right
-abbrev passing : In-Right → After-entry
-passing c = (goal.at.In-Right c).After-check_entry-judged
+abbrev passing : In-Ok-Some → After-entry
+passing c = (goal.at.In-Ok-Some c).After-check_entry-judged
 
 pub overflow_step-k : goal.overflow_step-k
 overflow_step-k c = omega (arith, (passing c).loop-k-test.true)
@@ -83,7 +84,7 @@ pub loop-k-preserved : goal.loop-k-preserved
 loop-k-preserved c =
     let e = passing c in
     let l = at-loop e in
-    entry-right _ _ _ _ _ _ (begun l).requires l.loop-k.invariant e.loop-k-test.true _ (subst (Says e) c.in-Right.is (says e))
+    entry-right _ _ _ _ _ _ (begun l).requires l.loop-k.invariant e.loop-k-test.true _ (subst (Says e) (c.in-Ok-Some.is ∙ ap Ok (rw c.in-Ok-Some.is at c.in-Ok-Some.field-0-is)) (says e))
 
 -- ---- all are
 pub rest_is_empty-requires : goal.rest_is_empty-requires

@@ -24,10 +24,10 @@ reads-back n h = simp plain
 replied : (c : After-date_of-dated) → dated_reply c.date_of-dated.result ≡ date_reply c.args.t
 replied c = let t = c.ranges.t in simp plain at c.date_of-dated.ensures
 
-pub returns-in-On : goal.returns-in-On
-returns-in-On c =
-    let e = sym (ap dated_reply c.in-On.is) ∙ replied (goal.at.returns-in-On c).After-date_of-dated in
-    let d = c.in-On.d in
+pub returns-in-Ok : goal.returns-in-Ok
+returns-in-Ok c =
+    let e = sym (ap dated_reply c.in-Ok.is) ∙ replied (goal.at.returns-in-Ok c).After-date_of-dated in
+    let d = c.in-Ok.d in
     record {
       code = ap date_code e;
       year = to_z-of_z {w = w64} (search rules) ∙ ap (λ (r : Reply Date). (date_left r).year) e;
@@ -35,9 +35,9 @@ returns-in-On c =
       day = reads-back d.day (omega arith) ∙ ap (λ (r : Reply Date). pos (date_left r).day) e;
     }
 
-pub returns-in-Refused : goal.returns-in-Refused
-returns-in-Refused c =
-    let e = sym (ap dated_reply c.in-Refused.is) ∙ replied (goal.at.returns-in-Refused c).After-date_of-dated in
+pub returns-in-Err : goal.returns-in-Err
+returns-in-Err c =
+    let e = sym (ap dated_reply c.in-Err.is) ∙ replied (goal.at.returns-in-Err c).After-date_of-dated in
     record {
       code = to_z-of_z {w = w64} (sfits_of c.refusal_code.type_inv) ∙ c.refusal_code.ensures ∙ ap date_code e;
       year = ap (λ (r : Reply Date). (date_left r).year) e;

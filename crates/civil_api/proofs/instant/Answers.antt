@@ -20,12 +20,12 @@ replied c =
     let d = s.ranges.day in
     simp plain at c.instant_of-found.ensures
 
-pub returns-in-At : goal.returns-in-At
-returns-in-At c =
-    let e = sym (ap found_reply c.in-At.is) ∙ replied (goal.at.returns-in-At c).After-instant_of-found in
+pub returns-in-Ok : goal.returns-in-Ok
+returns-in-Ok c =
+    let e = sym (ap found_reply c.in-Ok.is) ∙ replied (goal.at.returns-in-Ok c).After-instant_of-found in
     record { code = ap instant_code e; instant = to_z-of_z {w = w64} (search rules) ∙ ap instant_left e }
 
-pub returns-in-Refused : goal.returns-in-Refused
-returns-in-Refused c =
-    let e = sym (ap found_reply c.in-Refused.is) ∙ replied (goal.at.returns-in-Refused c).After-instant_of-found in
+pub returns-in-Err : goal.returns-in-Err
+returns-in-Err c =
+    let e = sym (ap found_reply c.in-Err.is) ∙ replied (goal.at.returns-in-Err c).After-instant_of-found in
     record { code = to_z-of_z {w = w64} (sfits_of c.refusal_code.type_inv) ∙ c.refusal_code.ensures ∙ ap instant_code e; instant = ap instant_left e }

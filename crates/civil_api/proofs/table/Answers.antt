@@ -19,15 +19,9 @@ loop-i-preserved c =
     written-more c.loop-i.invariant c.loop-i-test.true _
     (to_z-of_z {w = w32} (sfits_of c.number_at.type_inv) ∙ c.number_at.ensures)
 
-pub shape_of-list-then-n-lt66 : goal.shape_of-list-then-n-lt66
-shape_of-list-then-n-lt66 c = c.loop-i.invariant.whole
-
 pub returns-then-n-lt66 : goal.returns-then-n-lt66
 returns-then-n-lt66 c =
     record { code = sym (ap (λ (b : Bool). cond b (pos 66) (negsuc 0)) (lt-leb 66 _ c.if-n-lt66.true)); list = written_all c.loop-i.invariant c.loop-i-test.false }
-
-pub shape_of-list-else-n-lt66 : goal.shape_of-list-else-n-lt66
-shape_of-list-else-n-lt66 c = c.loop-i.invariant.whole
 
 pub returns-else-n-lt66 : goal.returns-else-n-lt66
 returns-else-n-lt66 c =

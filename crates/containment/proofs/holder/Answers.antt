@@ -17,7 +17,7 @@ use Rattle.cursors.specs.Found.{Near, found}
 use Rattle.cursors.proofs.Numbers.{valid}
 use Rattle.containment.proofs.Holders.{holder-no-label, holder-inside, holder-not-inside}
 use Rattle.containment.proofs.holder.Goals as goal
-use Rattle.containment.proofs.holder.Goals.{After-inside, After-label_at-label, In-At, Start}
+use Rattle.containment.proofs.holder.Goals.{After-inside, After-label_at-label, In-Some, Start}
 
 abbrev g-row : Start → Row
 g-row s = given s.args.g_period s.args.g_distance s.args.g_cells.now
@@ -49,10 +49,10 @@ returns-in_default c z e =
     let s = (goal.at.After-label_at-label d).Start in
     sym (holder-no-label (g-row s) (h-row s) (g-rules s) (h-rules s) s.args.t z e (label_is d ∙ ap found c.in_default.is))
 
-label-some : (c : In-At) → let s = (goal.at.In-At c).Start in meant (h-row s) s.args.t ≡ some c.in-At.i
-label-some c = label_is (goal.at.In-At c).After-label_at-label ∙ ap found c.in-At.is
+label-some : (c : In-Some) → let s = (goal.at.In-Some c).Start in meant (h-row s) s.args.t ≡ some c.in-Some.i
+label-some c = label_is (goal.at.In-Some c).After-label_at-label ∙ ap found c.in-Some.is
 
-inside_is : (c : After-inside) (z : ℤ) → let s = (goal.at.After-inside c).Start in meant (g-row s) s.args.t ≡ some z → c.inside.result ≡ inside (g-row s) z (h-row s) c.in-At.i
+inside_is : (c : After-inside) (z : ℤ) → let s = (goal.at.After-inside c).Start in meant (g-row s) s.args.t ≡ some z → c.inside.result ≡ inside (g-row s) z (h-row s) c.in-Some.i
 inside_is c z e =
     let s = (goal.at.After-inside c).Start in
     let p = s.ranges.g_period in
@@ -60,17 +60,17 @@ inside_is c z e =
     let q = s.ranges.h_period in
     let m = s.ranges.h_distance in
     let t = s.ranges.t in
-    (simp plain at c.inside.ensures) z _ e (label-some (goal.at.After-inside c).In-At)
+    (simp plain at c.inside.ensures) z _ e (label-some (goal.at.After-inside c).In-Some)
 
 pub returns-then-inside : goal.returns-then-inside
 returns-then-inside c z e =
-    let k = (goal.at.returns-then-inside c).In-At in
-    let s = (goal.at.In-At k).Start in
+    let k = (goal.at.returns-then-inside c).In-Some in
+    let s = (goal.at.In-Some k).Start in
     ap some (to_z-of_z {w = w64} (search rules))
     ∙ sym (holder-inside (g-row s) (h-row s) (g-rules s) (h-rules s) s.args.t z e _ (label-some k) (sym (inside_is (goal.at.returns-then-inside c).After-inside z e) ∙ c.if-inside.true))
 
 pub returns-else-inside : goal.returns-else-inside
 returns-else-inside c z e =
-    let k = (goal.at.returns-else-inside c).In-At in
-    let s = (goal.at.In-At k).Start in
+    let k = (goal.at.returns-else-inside c).In-Some in
+    let s = (goal.at.In-Some k).Start in
     sym (holder-not-inside (g-row s) (h-row s) (g-rules s) (h-rules s) s.args.t z e _ (label-some k) (sym (inside_is (goal.at.returns-else-inside c).After-inside z e) ∙ c.if-inside.false))

@@ -21,11 +21,11 @@ bits-test i j f g =
     let e = test-eq w64 i j f g in
     test-ext (λ h. (equal-iff j i).1 (sym (e.0 (b.0 h)))) (λ h. b.1 (e.1 (sym ((equal-iff j i).0 h))))
 
-pub returns-in-At : goal.returns-in-At
-returns-in-At c u e =
-    let s = (goal.at.returns-in-At c).Start in
+pub returns-in-Some : goal.returns-in-Some
+returns-in-Some c u e =
+    let s = (goal.at.returns-in-Some c).Start in
     let p = s.ranges.period in
     let d = s.ranges.distance in
     let h = (simp plain at c.cursor_label-label.ensures) u e in
-    bits-test c.in-At.i s.args.j (search rules) s.ranges.j
-    ∙ ap (is s.args.j) (ap found (sym c.in-At.is) ∙ h)
+    bits-test c.in-Some.i s.args.j (search rules) s.ranges.j
+    ∙ ap (is s.args.j) (ap found (sym c.in-Some.is) ∙ h)

@@ -15,7 +15,7 @@ use Rattle.containment.specs.Places.{at}
 use Rattle.containment.proofs.Steps.{step-iff}
 use Rattle.containment.proofs.Steps.Says.{past, within, behind, outside}
 use Rattle.containment.proofs.step_at.Goals as goal
-use Rattle.containment.proofs.step_at.Goals.{Start, After-cursor_label-label, After-shows, Else-k-p, Else-k-p, In-At, Start}
+use Rattle.containment.proofs.step_at.Goals.{Start, After-cursor_label-label, After-shows, Else-k-p, Else-k-p, In-Some, Start}
 
 abbrev b-row : Start → Row
 b-row s = given s.args.b_period s.args.b_distance s.args.b_cells.now
@@ -34,17 +34,17 @@ b-label c =
 pub returns-in_default : goal.returns-in_default
 returns-in_default c = sym ((step-iff _ _ _ _).1 (past (b-label (goal.at.returns-in_default c).After-cursor_label-label ∙ ap found c.in_default.is)))
 
-some-label : (c : In-At) → let s = (goal.at.In-At c).Start in meant (b-row s) (at (b-row s) s.args.p) ≡ some c.in-At.k
-some-label c = b-label (goal.at.In-At c).After-cursor_label-label ∙ ap found c.in-At.is
+some-label : (c : In-Some) → let s = (goal.at.In-Some c).Start in meant (b-row s) (at (b-row s) s.args.p) ≡ some c.in-Some.k
+some-label c = b-label (goal.at.In-Some c).After-cursor_label-label ∙ ap found c.in-Some.is
 
 pub returns-then-k-p : goal.returns-then-k-p
-returns-then-k-p c = sym ((step-iff _ _ _ _).1 (behind _ (some-label (goal.at.returns-then-k-p c).In-At) (λ e. c.if-k-p.true (ap (of_z w64) e))))
+returns-then-k-p c = sym ((step-iff _ _ _ _).1 (behind _ (some-label (goal.at.returns-then-k-p c).In-Some) (λ e. c.if-k-p.true (ap (of_z w64) e))))
 
 own-label : (c : Else-k-p) → let s = (goal.at.Else-k-p c).Start in meant (b-row s) (at (b-row s) s.args.p) ≡ some s.args.p.k
 own-label c =
-    let k : SFits w64 c.in-At.k = search rules in
+    let k : SFits w64 c.in-Some.k = search rules in
     let p : SFits w64 c.args.p.k = search rules in
-    some-label (goal.at.Else-k-p c).In-At ∙ ap some ((test-eq w64 _ _ k p).0 c.if-k-p.false)
+    some-label (goal.at.Else-k-p c).In-Some ∙ ap some ((test-eq w64 _ _ k p).0 c.if-k-p.false)
 
 -- whether it is in a's granule
 shown : (c : After-shows) → let s = (goal.at.After-shows c).Start in c.shows.result ≡ is s.args.p.i (meant (a-row s) (at (b-row s) s.args.p))

@@ -29,8 +29,6 @@ loop-i-init c =
     let f : SFits w32 (get_or l k (pos 0)) = sfits_of c.top_a-1.given in
     let e : get_or l k empty ≡ to_z w32 (of_z w32 (get_or l k (pos 0))) = get_d_any l k empty (pos 0) s.requires.0 ∙ sym (to_z-of_z f) in
     record {
-      low = omega arith;
-      within = omega arith;
       fits-a = held f;
       fits-b = held s.ranges.b;
       fits-c = held s.ranges.c;
@@ -121,9 +119,6 @@ passed-d c =
     (λ w. passed-same (row k) _ _ _ _ _ _ (omega arith) (omega arith) f k.loop-i.invariant.fits-d w.if-w-top_d.false w.top_d-is w.count-is)
     c.if-w-top_d.branch-raw
 
-pub overflow_add-count-then-y-top_b : goal.overflow_add-count-then-y-top_b
-overflow_add-count-then-y-top_b c = let h = inside (in-1 (goal.at.overflow_add-count-then-y-top_b c).Joined-z-top_a) in let p = (passed-a (goal.at.overflow_add-count-then-y-top_b c).Joined-z-top_a).few in omega arith
-
 pub overflow_add-count-then-x-top_c : goal.overflow_add-count-then-x-top_c
 overflow_add-count-then-x-top_c c =
     let j = (goal.at.overflow_add-count-then-x-top_c c).Joined-y-top_b in
@@ -151,8 +146,6 @@ loop-i-preserved c =
     let s = passed-c j in
     let t = passed-d c in
     record {
-      low = omega arith;
-      within = omega arith;
       fits-a = p.fits;
       fits-b = r.fits;
       fits-c = s.fits;

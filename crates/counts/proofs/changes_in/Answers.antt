@@ -12,19 +12,14 @@ use mir.Val.{of_z}
 use Rattle.integers.proofs.Machine.{test-eq}
 use Rattle.calendar.specs.Meaning.{empty}
 use Rattle.cursors.proofs.Cells.{get_d_any}
-use Rattle.counts.specs.Labels.{differing, differing_behind}
+use Rattle.counts.specs.Labels.{differing}
 use Rattle.counts.proofs.Whole.{differing-same, differing-more}
 use Rattle.counts.proofs.changes_in.Goals as goal
-use Rattle.counts.proofs.changes_in.Goals.{At-loop-i, Start}
-
-pub loop-i-init : goal.loop-i-init
-loop-i-init c = record { few = omega arith; within = omega arith; left = omega arith }
 
 pub loop-i-preserved : goal.loop-i-preserved
 loop-i-preserved c =
-    let a = (goal.at.loop-i-preserved c).At-loop-i in
-    let k = a.loop-i in
-    let l = a.args.cells.now in
+    let k = c.loop-i in
+    let l = c.args.cells.now in
     let i = k.i in
     let here : i < length l = omega arith in
     let x : get_or l i (pos 0) ≡ get_or l i empty = get_d_any l i (pos 0) empty here in
@@ -34,17 +29,9 @@ loop-i-preserved c =
     ⊎_elim
     (λ w.
     let m = differing-more l i empty here (get_or l (i - 1) empty) (λ h. w.if-cells-i.true (ap (of_z w32) (x ∙ h ∙ sym y))) in
-    record { few = omega arith; within = omega arith; left = omega (arith, k.invariant.left, m, g, w.count-is) })
+    record { few = omega arith; left = omega (arith, k.invariant.left, m, g, w.count-is) })
     (λ w.
     let q = (test-eq w32 _ _ (sfits_of c.t9-1.given) (sfits_of c.t13-1.given)).0 w.if-cells-i.false in
     let m = differing-same l i empty here (get_or l (i - 1) empty) (sym x ∙ q ∙ y) in
-    record { few = omega arith; within = omega arith; left = omega (arith, k.invariant.left, m, g, w.count-is) })
+    record { few = omega arith; left = omega (arith, k.invariant.left, m, g, w.count-is) })
     c.if-cells-i.branch-raw
-
-pub returns : goal.returns
-returns c =
-    let k = c.loop-i in
-    let s = (goal.at.returns c).Start in
-    let l = s.args.cells.now in
-    let e : k.i ≡ s.args.end = omega arith in
-    record { few = omega arith; counted = k.invariant.left ∙ ap (λ (i : ℕ). k.count + differing_behind l i) e }

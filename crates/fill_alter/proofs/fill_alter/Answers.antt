@@ -1,5 +1,7 @@
 -- `fill_alter::fill_alter` meets its contract: each turn of the loop finds the altered granule of the next label, and writes the cells of the stretch that has it.
 -- Assumes nothing.
+use Rattle.calendar.specs.declared.Refusal.{Refusal}
+use Rattle.std.specs.Prelude.{Result, ⊤}
 use borrow.Author.Rules.{sfits_of}
 use mathlib.Core.Path.{◌≡◌, refl, sym, ◌∙◌, ap, subst₂, subst, ap₂}
 use mathlib.Core.Bool.{true, false}
@@ -19,7 +21,6 @@ use Rattle.alter_granules.specs.declared.Repeat.{Repeat}
 use Rattle.kinds.specs.declared.Kind.TheVariants.{Alter}
 use Rattle.kinds.specs.Operations.{operation_of}
 use Rattle.kinds.specs.Stands.{row_in}
-use Rattle.fill_shared.specs.declared.Filled.{Filled}
 use Rattle.fill_shared.specs.Fillable.{Fillable}
 use Rattle.fill_shared.proofs.Cells.{lent_is, same_rows}
 use Rattle.fill_shared.specs.Placed.{Fills}
@@ -100,7 +101,7 @@ b-sound : (c : Told) → sound (b-row c) ≡ true
 b-sound c = (first c).lends.is-fillable.sounds.1
 
 -- what the loop ensures, over the operands
-as-filled : (c : Told) (new : List ℤ) (r : Filled) → let s = entry c in Fills (operation_of (Alter (by-told c)) (a-row c) (b-row c)) s.args.at s.args.period (old c) new r
+as-filled : (c : Told) (new : List ℤ) (r : Result ⊤ Refusal) → let s = entry c in Fills (operation_of (Alter (by-told c)) (a-row c) (b-row c)) s.args.at s.args.period (old c) new r
     → Fills (operation_of (Alter (by-told c)) (row_in (old c) s.args.a) (row_in (old c) s.args.b)) s.args.at s.args.period (old c) new r
 as-filled c new r h =
     let s = entry c in

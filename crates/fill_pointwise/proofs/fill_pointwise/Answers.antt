@@ -1,5 +1,7 @@
 -- `fill_pointwise::fill_pointwise` meets its contract: each way does.
 -- Assumes nothing.
+use Rattle.calendar.specs.declared.Refusal.{Refusal}
+use Rattle.std.specs.Prelude.{Result, ⊤}
 use mathlib.Core.Path.{◌≡◌, sym, subst}
 use mathlib.Core.List.{List}
 use lib.IntN.{ℤ}
@@ -8,7 +10,6 @@ use mir.Syntax.{w64}
 use mir.Val.{to_z, of_z}
 use Rattle.kinds.specs.Operations.{operation_of}
 use Rattle.kinds.specs.Stands.{row_in}
-use Rattle.fill_shared.specs.declared.Filled.{Filled}
 use Rattle.fill_shared.specs.Fillable.{Fillable}
 use Rattle.fill_shared.specs.Placed.{Placed, Fills}
 use Rattle.fill_pointwise.specs.declared.Pointwise.{Pointwise}
@@ -26,7 +27,7 @@ module _ (s : Start) (k : Pointwise) (e : s.args.by ≡ k) where
       rw (to_z-of_z s.ranges.span)
       (subst (λ (m : Pointwise). Fillable (kind_of m) (row_in p a.a) (row_in p a.b) × Placed (kind_of m) a.a a.b a.span a.at a.period p) e (s.requires.fillable, s.requires.placed))
 
-  filled : (new : List ℤ) (r : Filled) → let a = s.args in
+  filled : (new : List ℤ) (r : Result ⊤ Refusal) → let a = s.args in
       Fills (operation_of (kind_of k) (row_in a.pool.now a.a) (row_in a.pool.now a.b)) a.at a.period a.pool.now new r
       → Fills (operation_of (kind_of a.by) (row_in a.pool.now a.a) (row_in a.pool.now a.b)) a.at a.period a.pool.now new r
   filled new r h =

@@ -1,5 +1,7 @@
 -- `fill_pointwise::fill_second` meets its contract: the cells of a tell which labels are kept.
 -- Assumes nothing.
+use Rattle.calendar.specs.declared.Refusal.TheVariants.{NothingLabelled}
+use Rattle.std.specs.Prelude.{Err, Ok}
 use borrow.Author.Rules.{rules}
 use mathlib.Core.Path.{◌∙◌, ap}
 use mathlib.Core.Bool.{cond}
@@ -10,7 +12,6 @@ use lib.ListN.{get_or}
 use mir.Syntax.{w32}
 use mir.Val.{SFits}
 use Rattle.integers.proofs.Machine.{plain}
-use Rattle.fill_shared.specs.declared.Filled.TheVariants.{Labelled, Unlabelled}
 use Rattle.fill_shared.proofs.Working.{range-fits}
 use Rattle.fill_pointwise.specs.Beside.{keeps_second}
 use Rattle.fill_pointwise.proofs.OneCell.{Tells, second-tells, beside-room, beside-fills}
@@ -45,4 +46,4 @@ returns c =
     let h = simp plain at b.fill_beside-count.ensures in
     let e = rw (k.keeps_second-bare.ensures, k.keeps_shared-shared.ensures) at h in
     beside-fills _ _ _ _ _ _ _ s.requires.fillable s.requires.placed _ _ _ s.requires.serves (tells s) _ _
-    e.cells (c.outcome.ensures ∙ ap (λ (n : ℕ). cond (ltb 0 n) Labelled Unlabelled) e.count)
+    e.cells (c.outcome.ensures ∙ ap (λ (n : ℕ). cond (ltb 0 n) (Ok tt) (Err NothingLabelled)) e.count)

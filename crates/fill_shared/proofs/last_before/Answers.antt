@@ -18,7 +18,7 @@ use Rattle.cursors.proofs.Numbers.{numbers, valid}
 use Rattle.containment.specs.Places.{instant}
 use Rattle.fill_shared.proofs.Before.{back_start, back_end, back_on, back-less}
 use Rattle.fill_shared.proofs.last_before.Goals as goal
-use Rattle.fill_shared.proofs.last_before.Goals.{After-cursor_label-label, At-loop-j, In-Nothing, Start as Start-place}
+use Rattle.fill_shared.proofs.last_before.Goals.{After-cursor_label-label, At-loop-j, In-None, Start as Start-place}
 
 -- the row as the machine has it
 abbrev Start : Type 0
@@ -61,14 +61,14 @@ cursor_label-label-requires c = record { sound = sound (goal.at.cursor_label-lab
 label_is : (c : After-cursor_label-label) → let r = row (goal.at.After-cursor_label-label c).Start in meant r (instant r c.loop-j.c) ≡ found c.cursor_label-label.result
 label_is c = sym (c.cursor_label-label.ensures (instant (row (goal.at.After-cursor_label-label c).Start) c.loop-j.c) c.loop-j.invariant.cursor)
 
-pub returns-in-At : goal.returns-in-At
-returns-in-At c =
-    let l = (goal.at.returns-in-At c).After-cursor_label-label in
+pub returns-in-Some : goal.returns-in-Some
+returns-in-Some c =
+    let l = (goal.at.returns-in-Some c).After-cursor_label-label in
     let s = (goal.at.After-cursor_label-label l).Start in
     let p = s.ranges.period in
     let d = s.ranges.distance in
-    let k : SFits w64 c.in-At.j = search rules in
-    let e = back_end (row s) (rules_own s) l.loop-j.c l.loop-j.invariant c.in-At.j (label_is l ∙ ap found c.in-At.is) in
+    let k : SFits w64 c.in-Some.j = search rules in
+    let e = back_end (row s) (rules_own s) l.loop-j.c l.loop-j.invariant c.in-Some.j (label_is l ∙ ap found c.in-Some.is) in
     to_z-of_z k ∙ (simp plain at e)
 
 pub cursor_back-c-requires : goal.cursor_back-c-requires
@@ -77,17 +77,17 @@ cursor_back-c-requires c =
     record { sound = sound (goal.at.At-loop-j l).Start; standing = (instant (row (goal.at.At-loop-j l).Start) l.loop-j.c, near l, l.loop-j.invariant.cursor) }
 
 -- no label shows
-none_here : (c : In-Nothing) → let l = (goal.at.In-Nothing c).At-loop-j in meant (row (goal.at.At-loop-j l).Start) (instant (row (goal.at.At-loop-j l).Start) l.loop-j.c) ≡ none
-none_here c = label_is (goal.at.In-Nothing c).After-cursor_label-label ∙ ap found c.in-Nothing.is
+none_here : (c : In-None) → let l = (goal.at.In-None c).At-loop-j in meant (row (goal.at.At-loop-j l).Start) (instant (row (goal.at.At-loop-j l).Start) l.loop-j.c) ≡ none
+none_here c = label_is (goal.at.In-None c).After-cursor_label-label ∙ ap found c.in-None.is
 
 pub loop-j-smaller : goal.loop-j-smaller
 loop-j-smaller c =
     let l = (goal.at.loop-j-smaller c).At-loop-j in
     let s = (goal.at.At-loop-j l).Start in
-    back-less (row s) (rules_own s) l.loop-j.c c.cursor_back-c.result l.loop-j.invariant (c.cursor_back-c.ensures (instant (row s) l.loop-j.c) l.loop-j.invariant.cursor) (none_here (goal.at.loop-j-smaller c).In-Nothing)
+    back-less (row s) (rules_own s) l.loop-j.c c.cursor_back-c.result l.loop-j.invariant (c.cursor_back-c.ensures (instant (row s) l.loop-j.c) l.loop-j.invariant.cursor) (none_here (goal.at.loop-j-smaller c).In-None)
 
 pub loop-j-preserved : goal.loop-j-preserved
 loop-j-preserved c =
     let l = (goal.at.loop-j-preserved c).At-loop-j in
     let s = (goal.at.At-loop-j l).Start in
-    back_on (row s) (rules_own s) l.loop-j.c c.cursor_back-c.result l.loop-j.invariant (c.cursor_back-c.ensures (instant (row s) l.loop-j.c) l.loop-j.invariant.cursor) (none_here (goal.at.loop-j-preserved c).In-Nothing)
+    back_on (row s) (rules_own s) l.loop-j.c c.cursor_back-c.result l.loop-j.invariant (c.cursor_back-c.ensures (instant (row s) l.loop-j.c) l.loop-j.invariant.cursor) (none_here (goal.at.loop-j-preserved c).In-None)

@@ -13,14 +13,14 @@ use Rattle.calendar.specs.Limits.{in_range}
 use Rattle.cursors.specs.Found.{found}
 use Rattle.fill_shared.proofs.Working.{range-fits}
 use Rattle.fill_stretches.proofs.cell_of.Goals as goal
-use Rattle.fill_stretches.proofs.cell_of.Goals.{In-At}
+use Rattle.fill_stretches.proofs.cell_of.Goals.{In-Some}
 
 -- the label fits a number of 64 bits, and one of 32
-wide : (c : In-At) → SFits w64 c.in-At.j
+wide : (c : In-Some) → SFits w64 c.in-Some.j
 wide c = search rules
 
-small : (c : In-At) → SFits w32 c.in-At.j
-small c = range-fits _ (ap (λ (l : Option ℤ). if_label l in_range) (ap found (sym c.in-At.is)) ∙ c.requires)
+small : (c : In-Some) → SFits w32 c.in-Some.j
+small c = range-fits _ (ap (λ (l : Option ℤ). if_label l in_range) (ap found (sym c.in-Some.is)) ∙ c.requires)
 
 pub overflow_cast-result : goal.overflow_cast-result
 overflow_cast-result c =
@@ -28,11 +28,11 @@ overflow_cast-result c =
     let s = small c in
     simp plain s
 
-pub returns-in-At : goal.returns-in-At
-returns-in-At c =
+pub returns-in-Some : goal.returns-in-Some
+returns-in-Some c =
     let w = wide c in
     let s = small c in
-    simp plain (ap (λ x. cell_of (found x)) (sym c.in-At.is))
+    simp plain (ap (λ x. cell_of (found x)) (sym c.in-Some.is))
 
-pub returns-in-Nothing : goal.returns-in-Nothing
-returns-in-Nothing c = ap (λ x. cell_of (found x)) (sym c.in-Nothing.is)
+pub returns-in-None : goal.returns-in-None
+returns-in-None c = ap (λ x. cell_of (found x)) (sym c.in-None.is)

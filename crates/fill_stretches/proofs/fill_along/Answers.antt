@@ -1,7 +1,7 @@
 -- `fill_stretches::fill_along` meets its contract: each turn of the loop writes the cell of one instant.
 -- Assumes nothing.
 use borrow.Author.Rules.{rules}
-use mathlib.Core.Path.{◌≡◌, refl, sym, ◌∙◌, ap}
+use mathlib.Core.Path.{◌≡◌, refl, sym, ◌∙◌, ap, subst}
 use mathlib.Core.Logic.{⊎_elim}
 use mathlib.Core.Option.{Option, none, some}
 use mathlib.Core.Bool.{true}
@@ -24,9 +24,9 @@ use Rattle.calendar.specs.Questions.{given}
 use Rattle.cursors.specs.declared.Cursor.{Cursor}
 use Rattle.cursors.specs.Cursor.{cursor_at, Standing}
 use Rattle.fill_stretches.specs.Stretch.{cell_where, row_from, Room, Follows, Stretched}
-use Rattle.fill_stretches.proofs.Growing.{Grown, grown-none, grown-length, grown-kept, grown-more}
+use Rattle.fill_stretches.proofs.Growing.{Grown, grown-length, grown-kept, grown-more}
 use Rattle.fill_stretches.proofs.fill_along.Goals as goal
-use Rattle.fill_stretches.proofs.fill_along.Goals.{After-cursor-1, After-cursor_label-label, At-loop-t, In-At, In-loop-t, Joined-label, Start as Start-place}
+use Rattle.fill_stretches.proofs.fill_along.Goals.{After-cursor-1, After-cursor_label-label, At-loop-t, In-Some, In-loop-t, Joined-label, Start as Start-place}
 
 -- ---- what is given, as the machine has it
 abbrev Start : Type 0
@@ -72,9 +72,6 @@ ends s t cursor new x =
     let d = s.ranges.distance in
     simp plain at x
 
-pub loop-t-init : goal.loop-t-init
-loop-t-init c = let s = (goal.at.loop-t-init c).Start in grown-none (C s) (H s) (row s) _ _ _ (old s) _ (follows s).in-room (follows s).cursor
-
 -- ---- an instant
 abbrev At : Type 0
 At = At-loop-t
@@ -113,15 +110,6 @@ module _ (s : Start) (new : List ℤ) (cursor : Cursor) (t : ℕ) (g : Grown (C 
 at_part : (l : At) → ((base l).args.start ≤ (base l).args.end) × ((base l).args.end ≤ length l.loop-t.pool) × ((base l).args.end ≤ pool_limit)
 at_part l = part (base l) _ _ _ l.loop-t.invariant
 
-pub offset_bounds-pool-start : goal.offset_bounds-pool-start
-offset_bounds-pool-start c = let h = at_part (goal.at.offset_bounds-pool-start c).At-loop-t in omega arith
-
-pub slice_bounds-cursor_label-count : goal.slice_bounds-cursor_label-count
-slice_bounds-cursor_label-count c = (at_part (goal.at.slice_bounds-cursor_label-count c).At-loop-t).0
-
-pub slice_bounds-cursor_label-start : goal.slice_bounds-cursor_label-start
-slice_bounds-cursor_label-start c = (at_part (goal.at.slice_bounds-cursor_label-start c).At-loop-t).0
-
 pub slice_bounds-cursor_label-end : goal.slice_bounds-cursor_label-end
 slice_bounds-cursor_label-end c = (at_part (goal.at.slice_bounds-cursor_label-end c).At-loop-t).1
 
@@ -140,26 +128,26 @@ label_is c =
 
 -- a label j there
 abbrev Shown : Type 0
-Shown = In-At
+Shown = In-Some
 
 abbrev at-shown : Shown → At
-at-shown c = (goal.at.In-At c).At-loop-t
+at-shown c = (goal.at.In-Some c).At-loop-t
 
 abbrev label : Shown → ℤ
-label c = c.in-At.j
+label c = c.in-Some.j
 
 label-fits : (c : Shown) → SFits w64 (label c)
 label-fits c = search rules
 
 label-some : (c : Shown) → let l = at-shown c in meant (row (base l)) (pos l.loop-t.t) ≡ some (label c)
-label-some c = label_is (goal.at.In-At c).After-cursor_label-label ∙ ap found c.in-At.is
+label-some c = label_is (goal.at.In-Some c).After-cursor_label-label ∙ ap found c.in-Some.is
 
 pub shape_of-pool-then-high-j : goal.shape_of-pool-then-high-j
-shape_of-pool-then-high-j c = let l = at-shown (goal.at.shape_of-pool-then-high-j c).In-At in same (base l) _ _ _ l.loop-t.invariant
+shape_of-pool-then-high-j c = let l = at-shown (goal.at.shape_of-pool-then-high-j c).In-Some in same (base l) _ _ _ l.loop-t.invariant
 
 pub returns-then-high-j : goal.returns-then-high-j
 returns-then-high-j c =
-    let k = (goal.at.returns-then-high-j c).In-At in
+    let k = (goal.at.returns-then-high-j c).In-Some in
     let l = at-shown k in
     let g = l.loop-t.invariant in
     let f = label-fits k in
@@ -185,10 +173,10 @@ cells c =
     let k = (goal.at.Joined-label c).After-cursor_label-label in
     ⊎_elim
     (λ w.
-    let f : SFits w64 w.in-At.j = search rules in
-    let b = (test-not-lt (H (base (at_of c))) w.in-At.j).0 (rw (to_z-of_z f) at w.if-high-j.false) in
-    (some w.in-At.j, label_is k ∙ ap found w.in-At.is, λ j e. (let q : w.in-At.j ≡ j = cc in rw q at b), w.written-is))
-    (λ w. (none, label_is k ∙ ap found w.in-Nothing.is, λ j e. (let z : ◌≡◌ {A = ℕ} 0 1 = cc in absurd (omega arith)), w.written-is))
+    let f : SFits w64 w.in-Some.j = search rules in
+    let b = (test-not-lt (H (base (at_of c))) w.in-Some.j).0 (rw (to_z-of_z f) at w.if-high-j.false) in
+    (some w.in-Some.j, label_is k ∙ ap found w.in-Some.is, λ j e. (let q : w.in-Some.j ≡ j = cc in rw q at b), w.written-is))
+    (λ w. (none, label_is k ∙ ap found w.in-None.is, λ j e. (let z : ◌≡◌ {A = ℕ} 0 1 = cc in absurd (omega arith)), w.written-is))
     c.match-label.branch-raw
 
 -- one instant more
@@ -203,12 +191,6 @@ more c next e =
 index_of : (c : Set) → let l = at_of c in ((base l).args.at + l.loop-t.t < length l.loop-t.pool) × (length l.loop-t.pool ≤ pool_limit)
 index_of c = let l = at_of c in index (base l) _ _ _ l.loop-t.invariant (in-of c).loop-t-test.true
 
-pub overflow_add-written : goal.overflow_add-written
-overflow_add-written c = let h = index_of c in omega arith
-
-pub offset_bounds-pool-at : goal.offset_bounds-pool-at
-offset_bounds-pool-at c = let h = index_of c in omega arith
-
 pub bounds-pool-at : goal.bounds-pool-at
 bounds-pool-at c = (index_of c).0
 
@@ -216,15 +198,6 @@ bounds-pool-at c = (index_of c).0
 set-part : (c : Set) → let l = at_of c in let s = base l in
     (s.args.start ≤ s.args.end) × (s.args.end ≤ length (set l.loop-t.pool (s.args.at + l.loop-t.t) (to_z w32 c.match-label.written-bits))) × (s.args.end ≤ pool_limit)
 set-part c = part (base (at_of c)) _ _ _ (more c _ refl)
-
-pub offset_bounds-pool-start-in-loop-t : goal.offset_bounds-pool-start-in-loop-t
-offset_bounds-pool-start-in-loop-t c = let h = set-part c in omega arith
-
-pub slice_bounds-cursor_next-count : goal.slice_bounds-cursor_next-count
-slice_bounds-cursor_next-count c = (set-part c).0
-
-pub slice_bounds-cursor_next-start : goal.slice_bounds-cursor_next-start
-slice_bounds-cursor_next-start c = (set-part (goal.at.slice_bounds-cursor_next-start c).Joined-label).0
 
 pub slice_bounds-cursor_next-end : goal.slice_bounds-cursor_next-end
 slice_bounds-cursor_next-end c = (set-part (goal.at.slice_bounds-cursor_next-end c).Joined-label).1
@@ -234,12 +207,6 @@ cursor_next-cursor-requires c =
     let w = (goal.at.cursor_next-cursor-requires c).Joined-label in
     let l = at_of w in
     record { sound = (asks (base l) _ _ _ (more w _ refl) l.loop-t.cursor l.loop-t.t (in-of w).loop-t-test.true l.loop-t.invariant.is-cursor).0; standing = (asks (base l) _ _ _ (more w _ refl) l.loop-t.cursor l.loop-t.t (in-of w).loop-t-test.true l.loop-t.invariant.is-cursor).1 }
-
-pub overflow_add-t : goal.overflow_add-t
-overflow_add-t c = let h = index_of (goal.at.overflow_add-t c).Joined-label in omega arith
-
-pub loop-t-smaller : goal.loop-t-smaller
-loop-t-smaller c = omega (arith, (in-of (goal.at.loop-t-smaller c).Joined-label).loop-t-test.true)
 
 pub loop-t-preserved : goal.loop-t-preserved
 loop-t-preserved c =
@@ -255,5 +222,7 @@ shape_of-pool c = same (base (goal.at.shape_of-pool c).At-loop-t) _ _ _ c.loop-t
 pub returns : goal.returns
 returns c =
     let l = (goal.at.returns c).At-loop-t in
-    let g = l.loop-t.invariant in
-    ends (base l) _ _ _ record { follows = record { in-room = g.in-room; cursor = g.is-cursor }; on = g.on; cells = g.cells; below = g.below; stops = λ m. absurd (omega (arith, c.loop-t-test.false)) }
+    let s = base l in
+    let e : l.loop-t.t ≡ s.args.size = omega arith in
+    let g = subst (Grown (C s) (H s) (row s) s.args.at s.args.size s.args.from.t (old s) l.loop-t.pool l.loop-t.cursor) e l.loop-t.invariant in
+    ends s _ _ _ record { follows = record { in-room = g.in-room; cursor = g.is-cursor }; on = g.on; cells = g.cells; below = g.below; stops = λ m. absurd (omega arith) }

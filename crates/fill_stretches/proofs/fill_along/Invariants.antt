@@ -1,13 +1,9 @@
 -- `fill_stretches::fill_along` meets its contract: each turn of the loop writes the cell of one instant.
 -- Assumes nothing.
-use Prim.Native.Nat.{◌-◌}
 use Rattle.fill_stretches.specs.Stretch.{row_from}
 use Rattle.fill_stretches.proofs.Growing.{Grown}
 use Rattle.fill_stretches.proofs.fill_along.Given as goal
 
 abbrev pub invariant-loop-t : goal.invariant-loop-t
 invariant-loop-t l =
-    Grown l.cell l.high (row_from l.start l.end l.period l.distance l.initial.pool) l.at l.size l.initial.t l.initial.pool l.pool l.cursor l.t
-
-abbrev pub decreases-loop-t : goal.decreases-loop-t
-decreases-loop-t l = l.size - l.t
+    Grown l.cell l.high (row_from l.start l.end l.period l.distance l.initial.pool) l.at l.size l.fn.from.t l.initial.pool l.pool l.cursor l.t

@@ -9,11 +9,11 @@ use Rattle.calendar.specs.Lists.{if_label}
 use Rattle.calendar.specs.Limits.{in_range}
 use Rattle.cursors.specs.Found.{found}
 use Rattle.fill_stretches.proofs.in_limits.Goals as goal
-use Rattle.fill_stretches.proofs.in_limits.Goals.{In-At}
+use Rattle.fill_stretches.proofs.in_limits.Goals.{In-Some}
 
-pub returns-in-At : goal.returns-in-At
-returns-in-At c =
-    let k = (goal.at.returns-in-At c).In-At in
-    let w : SFits w64 k.in-At.j = search rules in
+pub returns-in-Some : goal.returns-in-Some
+returns-in-Some c =
+    let k = (goal.at.returns-in-Some c).In-Some in
+    let w : SFits w64 k.in-Some.j = search rules in
     let e = simp plain at c.in_range.ensures in
-    e ∙ ap (λ x. if_label (found x) in_range) (sym k.in-At.is)
+    e ∙ ap (λ x. if_label (found x) in_range) (sym k.in-Some.is)

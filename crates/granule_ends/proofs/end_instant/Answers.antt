@@ -24,7 +24,7 @@ use Rattle.granule_ends.specs.Ends.{end_of}
 use Rattle.granule_ends.proofs.Inputs.{read, read-sound, read-within, read-holds}
 use Rattle.granule_ends.proofs.Walks.{left, walk_start, walk-past, walk-to, walk_end, walk-less}
 use Rattle.granule_ends.proofs.end_instant.Goals as goal
-use Rattle.granule_ends.proofs.end_instant.Goals.{After-cursor_label-label, After-cursor_label-own, After-cursor_step-c, At-loop-k, In-At, In-At-label, Start as Start-place}
+use Rattle.granule_ends.proofs.end_instant.Goals.{After-cursor_label-label, After-cursor_label-own, After-cursor_step-c, At-loop-k, In-Some, In-Some-label, Start as Start-place}
 
 -- the numbers as the machine has them
 abbrev Start : Type 0
@@ -61,14 +61,14 @@ pub cursor_label-own-requires : goal.cursor_label-own-requires
 cursor_label-own-requires c = record { sound = sound (goal.at.cursor_label-own-requires c).Start; standing = (T (goal.at.cursor_label-own-requires c).Start, near (goal.at.cursor_label-own-requires c).Start, c.cursor_at-c.ensures) }
 
 -- the label of t
-own-fits : (c : In-At) → SFits w64 c.in-At.j
+own-fits : (c : In-Some) → SFits w64 c.in-Some.j
 own-fits c = search rules
 
-own-label : (c : In-At) → meant (row (goal.at.In-At c).Start) (T (goal.at.In-At c).Start) ≡ some (to_z w64 (of_z w64 c.in-At.j))
+own-label : (c : In-Some) → meant (row (goal.at.In-Some c).Start) (T (goal.at.In-Some c).Start) ≡ some (to_z w64 (of_z w64 c.in-Some.j))
 own-label c =
-    let l = (goal.at.In-At c).After-cursor_label-own in
+    let l = (goal.at.In-Some c).After-cursor_label-own in
     let s = (goal.at.After-cursor_label-own l).Start in
-    sym (l.cursor_label-own.ensures (T s) l.cursor_at-c.ensures) ∙ ap found c.in-At.is ∙ ap some (sym (to_z-of_z (own-fits c)))
+    sym (l.cursor_label-own.ensures (T s) l.cursor_at-c.ensures) ∙ ap found c.in-Some.is ∙ ap some (sym (to_z-of_z (own-fits c)))
 
 pub loop-k-init : goal.loop-k-init
 loop-k-init c =
@@ -124,13 +124,13 @@ label_is : (d : After-cursor_label-label) → meant (row (start d)) (instant d) 
 label_is d = ap (meant (row (start d))) (instant-is d) ∙ sym (d.cursor_label-label.ensures (there (at-loop d)) (moved (goal.at.After-cursor_label-label d).After-cursor_step-c))
 
 -- where it has one
-label-fits : (c : In-At-label) → SFits w64 c.in-At-label.k
+label-fits : (c : In-Some-label) → SFits w64 c.in-Some-label.k
 label-fits c = search rules
 
-label-some : (c : In-At-label) → meant (row (start (goal.at.In-At-label c).After-cursor_label-label)) (instant (goal.at.In-At-label c).After-cursor_label-label) ≡ some (to_z w64 (of_z w64 c.in-At-label.k))
+label-some : (c : In-Some-label) → meant (row (start (goal.at.In-Some-label c).After-cursor_label-label)) (instant (goal.at.In-Some-label c).After-cursor_label-label) ≡ some (to_z w64 (of_z w64 c.in-Some-label.k))
 label-some c =
-    label_is (goal.at.In-At-label c).After-cursor_label-label
-    ∙ ap found c.in-At-label.is
+    label_is (goal.at.In-Some-label c).After-cursor_label-label
+    ∙ ap found c.in-Some-label.is
     ∙ ap some (sym (to_z-of_z (label-fits c)))
 
 pub returns-then-k-j : goal.returns-then-k-j
@@ -138,24 +138,24 @@ returns-then-k-j c j e =
     let d = (goal.at.returns-then-k-j c).After-cursor_label-label in
     let s = start d in
     let b = (at-loop d).loop-k.invariant in
-    let k = label-fits (goal.at.returns-then-k-j c).In-At-label in
-    let o = own-fits (goal.at.At-loop-k (at-loop d)).In-At in
+    let k = label-fits (goal.at.returns-then-k-j c).In-Some-label in
+    let o = own-fits (goal.at.At-loop-k (at-loop d)).In-Some in
     let f =
-    walk_end (row s) (rules_own s) s.args.back (T s) _ _ _ _ (instant d) _ b (cursor-is d) (instant-is d) _ (label-some (goal.at.returns-then-k-j c).In-At-label)
+    walk_end (row s) (rules_own s) s.args.back (T s) _ _ _ _ (instant d) _ b (cursor-is d) (instant-is d) _ (label-some (goal.at.returns-then-k-j c).In-Some-label)
     (λ q. c.if-k-j.true (ap (of_z w64) (sym (to_z-of_z k) ∙ q ∙ to_z-of_z o))) in
     read-holds s.args.cells.now s.ranges.period s.ranges.distance s.ranges.t (λ r u i. to_z w64 (at-loop d).loop-k.end-bits ≡ end_of s.args.back (granule r i)) f b.own e
 
 less : (d : After-cursor_label-label) → let s = start d in left s.args.back (up (P s)) (T s) (instant d) < left s.args.back (up (P s)) (T s) (here (at-loop d))
 less d = walk-less (row (start d)) (rules_own (start d)) (start d).args.back (T (start d)) _ _ _ _ (instant d) _ (at-loop d).loop-k.invariant (cursor-is d) (instant-is d)
 
-pub loop-k-smaller-in-At-label : goal.loop-k-smaller-in-At-label
-loop-k-smaller-in-At-label c = less (goal.at.loop-k-smaller-in-At-label c).After-cursor_label-label
+pub loop-k-smaller-in-Some-label : goal.loop-k-smaller-in-Some-label
+loop-k-smaller-in-Some-label c = less (goal.at.loop-k-smaller-in-Some-label c).After-cursor_label-label
 
-pub loop-k-preserved-in-At-label : goal.loop-k-preserved-in-At-label
-loop-k-preserved-in-At-label c =
-    let d = (goal.at.loop-k-preserved-in-At-label c).After-cursor_label-label in
+pub loop-k-preserved-in-Some-label : goal.loop-k-preserved-in-Some-label
+loop-k-preserved-in-Some-label c =
+    let d = (goal.at.loop-k-preserved-in-Some-label c).After-cursor_label-label in
     let s = start d in
-    walk-to (row s) (rules_own s) s.args.back (T s) _ _ _ _ (instant d) _ (at-loop d).loop-k.invariant (cursor-is d) (instant-is d) (label-some (goal.at.loop-k-preserved-in-At-label c).In-At-label ∙ ap (λ (n : ℕ). some (to_z w64 n)) c.if-k-j.false)
+    walk-to (row s) (rules_own s) s.args.back (T s) _ _ _ _ (instant d) _ (at-loop d).loop-k.invariant (cursor-is d) (instant-is d) (label-some (goal.at.loop-k-preserved-in-Some-label c).In-Some-label ∙ ap (λ (n : ℕ). some (to_z w64 n)) c.if-k-j.false)
 
 pub loop-k-smaller : goal.loop-k-smaller
 loop-k-smaller c = less (goal.at.loop-k-smaller c).After-cursor_label-label
@@ -164,4 +164,4 @@ pub loop-k-preserved : goal.loop-k-preserved
 loop-k-preserved c =
     let d = (goal.at.loop-k-preserved c).After-cursor_label-label in
     let s = start d in
-    walk-past (row s) (rules_own s) s.args.back (T s) _ _ _ _ (instant d) _ (at-loop d).loop-k.invariant (cursor-is d) (instant-is d) (label_is d ∙ ap found c.in-Nothing.is)
+    walk-past (row s) (rules_own s) s.args.back (T s) _ _ _ _ (instant d) _ (at-loop d).loop-k.invariant (cursor-is d) (instant-is d) (label_is d ∙ ap found c.in-None.is)

@@ -8,5 +8,5 @@ use Rattle.heading_records.proofs.read_all.Goals as goal
 pub returns : goal.returns
 returns c =
     let hs = c.args.headings.now in
-    let all : length hs ≡ c.loop-i.i = omega (arith, c.loop-i.invariant.upto, c.loop-i-test.false) in
-    subst (λ (r : Read). ReadsAll hs r) (ap (read_upto hs) all ∙ sym c.loop-i.invariant.read) (reads_all hs)
+    let all : length hs ≡ c.loop-i.i = omega arith in
+    subst (λ (r : Read). ReadsAll hs r) (ap (read_upto hs) all ∙ sym c.loop-i.invariant) (reads_all hs)

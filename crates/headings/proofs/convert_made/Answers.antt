@@ -10,7 +10,7 @@ use lib.Seq.{length-take-le}
 use Rattle.calendar.specs.Limits.{entry_limit, heading_length}
 use Rattle.calendar.specs.Outcome.{outcome}
 use Rattle.calendar.specs.Stored.{headings_after, pool_after}
-use Rattle.conversion.specs.declared.Conversion.{Conversion}
+use Rattle.conversion.specs.Conversion.{Conversion}
 use Rattle.conversion.specs.Answers.{answered}
 use Rattle.conversion.specs.Left.{Left}
 use Rattle.headings.proofs.Plain.{Asked, asked-all, asked-most, outcome-numbers}

@@ -1,5 +1,6 @@
 -- `match_pointwise::match_pointwise` meets its contract: each turn of the loop compares the label of one instant.
 -- Assumes nothing.
+use Rattle.std.specs.Prelude.{ℤ}
 use borrow.Author.Rules.{rules, sfits_of}
 use borrow.Author.Tests.{not-true, not-false}
 use mathlib.Core.Path.{◌≡◌, sym, ◌∙◌, ap, subst}
@@ -11,7 +12,7 @@ use lib.Signed.{◌<ℤ◌}
 use mir.Facts.{to_z-of_z}
 use mir.Syntax.{w64}
 use mir.Val.{to_z}
-use Rattle.integers.proofs.Linear.{ints, ◌∴◌}
+use Rattle.integers.proofs.Linear.{ints}
 use Rattle.calendar.specs.Meaning.{Row}
 use Rattle.calendar.specs.Limits.{pool_limit}
 use Rattle.calendar.specs.Compute.{result, anchored}
@@ -26,15 +27,9 @@ use Rattle.fill_pointwise.specs.Decided.{kind_of}
 use Rattle.fill_pointwise.specs.Scanning.{Scans}
 use Rattle.fill_pointwise.proofs.Labels.{sound-both}
 use Rattle.match_shared.proofs.Lent.{lent_row, lent_row_lem}
-use Rattle.match_shared.proofs.Claims.{claim-positive, claim-inside, claim-instant, claim-below, claim-outside, claim-standing, claim-matched}
+use Rattle.match_shared.proofs.Claims.{claim-positive, claim-inside, claim-instant, claim-below, claim-outside, claim-matched}
 use Rattle.match_pointwise.proofs.match_pointwise.Goals as goal
 use Rattle.match_pointwise.proofs.match_pointwise.Goals.{After-begin-seen, After-compared-seen, After-cursor_at-2, After-in_limits, After-last_before, After-step-stepped, After-struct_told-2-1, After-struct_told-4-1, At-loop-t, Else-not-in_limits, In-loop-t, Start}
-
-pub cells_of-a_cells-requires : goal.cells_of-a_cells-requires
-cells_of-a_cells-requires c = record { pos_bound = c.requires.claimed.a-period; a_in_bounds = c.requires.claimed.a-end }
-
-pub cells_of-b_cells-requires : goal.cells_of-b_cells-requires
-cells_of-b_cells-requires c = let s = (goal.at.cells_of-b_cells-requires c).Start in record { pos_bound = s.requires.claimed.b-period; a_in_bounds = s.requires.claimed.b_end }
 
 -- ---- the rows that are lent
 abbrev Told-a : Type 0
@@ -58,9 +53,6 @@ sounds : (s : Start) → (sound (row_in s.args.pool.now s.args.a) ≡ true) × (
 sounds s = sound-both s.args.by _ _ s.requires.fillable.sounds
 
 -- ---- the state before the instant 0
-pub cursor_at-requires : goal.cursor_at-requires
-cursor_at-requires c = record { sound = subst (λ (x : Row). sound x ≡ true) (sym (a-is c)) (sounds (entry c)).0; near = simp ints (omega arith) }
-
 b-sound : (c : Told-b) → let d = (goal.at.After-struct_told-4-1 c).After-struct_told-2-1 in let s = entry d in sound (lent_row s.args.b d.cells_of-b_cells.result.now) ≡ true
 b-sound c = subst (λ (x : Row). sound x ≡ true) (sym (b-is c)) (sounds (entry (goal.at.After-struct_told-4-1 c).After-struct_told-2-1)).1
 
@@ -97,9 +89,6 @@ loop-t-init c = (
 )
 
 -- ---- a turn
-pub overflow_cast-t : goal.overflow_cast-t
-overflow_cast-t c = let h = claim-below (start (goal.at.overflow_cast-t c).After-begin-seen).requires.claimed c.loop-t-test.true in h ∴ simp ints (omega arith)
-
 pub step-stepped-requires : goal.step-stepped-requires
 step-stepped-requires c =
     let i = (goal.at.step-stepped-requires c).In-loop-t in
@@ -131,20 +120,6 @@ returns-then-not-in_limits c =
     let x = (goal.at.After-in_limits n).After-step-stepped in
     let i = (goal.at.After-step-stepped x).In-loop-t in
     claim-outside (start (goal.at.In-loop-t i).After-begin-seen).requires.claimed i.loop-t-test.true _ (stepped x).0 (sym n.in_limits.ensures ∙ not-true _ c.if-not-in_limits.true-raw)
-
-pub compared-seen-requires : goal.compared-seen-requires
-compared-seen-requires c =
-    let l = (goal.at.compared-seen-requires c).At-loop-t in
-    let h = (start (goal.at.At-loop-t l).After-begin-seen).requires.claimed in
-    record { pos_bound = h.r-period; stands = h.claim; standing = claim-standing h l.loop-t.invariant.1 }
-
-pub overflow_add-t : goal.overflow_add-t
-overflow_add-t c =
-    let i = (goal.at.overflow_add-t c).In-loop-t in
-    omega (arith, i.loop-t-test.true, (start (goal.at.In-loop-t i).After-begin-seen).ranges.period)
-
-pub loop-t-smaller : goal.loop-t-smaller
-loop-t-smaller c = omega (arith, c.loop-t-test.true)
 
 pub loop-t-preserved : goal.loop-t-preserved
 loop-t-preserved c =

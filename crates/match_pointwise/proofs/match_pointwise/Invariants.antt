@@ -1,6 +1,5 @@
 -- `match_pointwise::match_pointwise` meets its contract: each turn of the loop compares the label of one instant.
 -- Assumes nothing.
-use Prim.Native.Nat.{◌-◌}
 use lib.IntN.{pos}
 use Rattle.kinds.specs.Stands.{row_in}
 use Rattle.fill_shared.specs.Placed.{over}
@@ -12,6 +11,3 @@ use Rattle.match_pointwise.proofs.match_pointwise.Given as goal
 abbrev pub invariant-loop-t : goal.invariant-loop-t
 invariant-loop-t l =
     Scans (row_in l.pool l.a) (row_in l.pool l.b) (pos l.t) l.s × Compares (over (kind_of l.by) l.pool l.a l.b) (row_in l.pool l.r) l.t l.seen
-
-abbrev pub decreases-loop-t : goal.decreases-loop-t
-decreases-loop-t l = l.period - l.t

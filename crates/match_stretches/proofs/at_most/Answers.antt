@@ -11,9 +11,9 @@ use Rattle.cursors.specs.Found.{found}
 use Rattle.match_stretches.proofs.at_most.Goals as goal
 use Rattle.match_stretches.proofs.at_most.Goals.{Start}
 
-pub returns-in-At : goal.returns-in-At
-returns-in-At c =
-    let s = (goal.at.returns-in-At c).Start in
-    let w : SFits w64 c.in-At.j = search rules in
+pub returns-in-Some : goal.returns-in-Some
+returns-in-Some c =
+    let s = (goal.at.returns-in-Some c).Start in
+    let w : SFits w64 c.in-Some.j = search rules in
     let h = s.ranges.high in
-    simp plain (ap (λ x. if_label (found x) (λ j. le_z j s.args.high)) (sym c.in-At.is))
+    simp plain (ap (λ x. if_label (found x) (λ j. le_z j s.args.high)) (sym c.in-Some.is))

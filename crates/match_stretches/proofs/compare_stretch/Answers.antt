@@ -22,7 +22,7 @@ use Rattle.match_shared.proofs.Lent.{lent_row}
 use Rattle.match_stretches.specs.declared.Compared.{Compared}
 use Rattle.match_stretches.specs.Stretch.{Stretched}
 use Rattle.match_stretches.proofs.Rows.{period-positive, lent_is, lent-asks}
-use Rattle.match_stretches.proofs.Passing.{not-at-most, passed_none, passed-more}
+use Rattle.match_stretches.proofs.Passing.{not-at-most, passed-more}
 use Rattle.match_stretches.proofs.compare_stretch.Goals as goal
 use Rattle.match_stretches.proofs.compare_stretch.Goals.{After-cells_of-r_cells, After-cursor_label-followed, After-still_same-same, At-loop-t, Else-not-at_most, In-loop-t, Start}
 
@@ -50,9 +50,6 @@ row_is l = lent_is _ _ (entry l).requires.room.followed _ l.cells_of-a_cells.ens
 
 claim-is : (l : Lent) → lent_row (entry l).args.r l.cells_of-r_cells.result.now ≡ claim l
 claim-is l = lent_is _ _ (entry l).requires.room.claim _ l.cells_of-r_cells.ensures
-
-pub loop-t-init : goal.loop-t-init
-loop-t-init c = let l = (goal.at.loop-t-init c).After-cells_of-r_cells in passed_none _ _ (row l) (claim l) _ _ (entry l).requires.follows
 
 -- ---- an instant
 abbrev At : Type 0
@@ -113,12 +110,6 @@ cursor_next-cursor-requires c = let x = a-asks (in-of (goal.at.cursor_next-curso
 pub cursor_next-claim-requires : goal.cursor_next-claim-requires
 cursor_next-claim-requires c = let x = r-asks (in-of (goal.at.cursor_next-claim-requires c).After-still_same-same) in record { sound = x.0; standing = x.1 }
 
-pub overflow_add-t : goal.overflow_add-t
-overflow_add-t c = let h = near (in-of (goal.at.overflow_add-t c).After-still_same-same) in omega arith
-
-pub loop-t-smaller : goal.loop-t-smaller
-loop-t-smaller c = omega (arith, (in-of (goal.at.loop-t-smaller c).After-still_same-same).loop-t-test.true)
-
 pub loop-t-preserved : goal.loop-t-preserved
 loop-t-preserved c =
     let g = (goal.at.loop-t-preserved c).After-still_same-same in
@@ -141,4 +132,6 @@ loop-t-preserved c =
 pub returns : goal.returns
 returns c =
     let l = (goal.at.returns c).At-loop-t in
-    ends (base l) _ record { passed = l.loop-t.invariant; stops = λ m. absurd (omega (arith, c.loop-t-test.false)) }
+    let size = (entry (base l)).args.size in
+    let all : l.loop-t.t ≡ size = omega (arith, l.loop-t.invariant.follows.in-room, c.loop-t-test.false) in
+    rw all at (ends (base l) _ record { passed = l.loop-t.invariant; stops = λ m. absurd (omega (arith, c.loop-t-test.false)) })

@@ -1,5 +1,7 @@
 -- `match_unary::match_unary` meets its contract: each turn of the loop compares the label of one instant.
 -- Assumes nothing.
+use Rattle.calendar.specs.declared.Refusal.{Refusal}
+use Rattle.std.specs.Prelude.{Result, Bool}
 use borrow.Author.Rules.{rules, sfits_of}
 use borrow.Author.Tests.{not-true, not-false}
 use mathlib.Core.Path.{◌≡◌, sym, ◌∙◌, ap, subst}
@@ -27,11 +29,10 @@ use Rattle.fill_shared.specs.Fillable.{Fillable}
 use Rattle.fill_shared.specs.Placed.{over}
 use Rattle.fill_shared.proofs.Single.{fillable-twice, operation-over}
 use Rattle.fill_shared.proofs.Points.{is-near, label_small}
-use Rattle.match_shared.specs.declared.Matched.{Matched}
 use Rattle.match_shared.specs.Matching.{matched_as}
 use Rattle.match_shared.specs.Claims.{Claimed}
 use Rattle.match_shared.proofs.Lent.{lent_row, lent_row_lem}
-use Rattle.match_shared.proofs.Claims.{claim-positive, claim-inside, claim-below, claim-outside, claim-standing, claim-matched}
+use Rattle.match_shared.proofs.Claims.{claim-positive, claim-inside, claim-below, claim-outside, claim-matched}
 use Rattle.match_unary.specs.Numbered.{kind_of, number_in, Counts}
 use Rattle.match_unary.proofs.Single.{one-operand, sound-first, result-is, claimed-twice}
 use Rattle.match_unary.proofs.Counting.{counts-label, counts-within}
@@ -58,13 +59,10 @@ is-valid : (s : Start) → Valid (row s)
 is-valid s = sound-valid (row s) (is-sound s)
 
 -- what the loop answers, over both rows
-answered : (s : Start) (m : Matched) → m ≡ matched_as (operation s) (row_in s.args.pool.now s.args.r)
+answered : (s : Start) (m : Result Bool Refusal) → m ≡ matched_as (operation s) (row_in s.args.pool.now s.args.r)
     → m ≡ matched_as (over (kind_of s.args.by) s.args.pool.now s.args.a s.args.b) (row_in s.args.pool.now s.args.r)
 answered s m e =
     e ∙ ap (λ (o : Operation Row). matched_as o (row_in s.args.pool.now s.args.r)) (operation-over (kind_of s.args.by) (row s) (row_in s.args.pool.now s.args.b) (one-operand s.args.by))
-
-pub cells_of-cells-requires : goal.cells_of-cells-requires
-cells_of-cells-requires c = record { pos_bound = c.requires.claimed.a-period; a_in_bounds = c.requires.claimed.a-end }
 
 -- the row that is lent
 abbrev Told : Type 0
@@ -95,9 +93,6 @@ first_number-requires c =
       fillable = subst (λ (x : Row). Fillable (kind_of s.args.by) x x) (sym (a-is d)) (fillable-twice (kind_of s.args.by) (row s) _ (one-operand s.args.by) s.requires.fillable);
       last_value = to_z-of_z {w = w64} (sfits_of l.last_before-last.type_inv) ∙ l.last_before-last.ensures;
     }
-
-pub cursor_at-cursor-requires : goal.cursor_at-cursor-requires
-cursor_at-cursor-requires c = record { sound = lent-sound (goal.at.cursor_at-cursor-requires c).After-struct_told-2-1; near = simp ints (omega arith) }
 
 abbrev Begun : Type 0
 Begun = After-begin-seen
@@ -212,20 +207,6 @@ returns-then-not-in_limits c =
     let i = in-numbered (goal.at.After-in_limits n).After-numbered-label in
     let s = from_start i in
     answered s _ (claim-outside (claimed s) i.loop-t-test.true _ (label_is (goal.at.After-in_limits n).After-numbered-label) (sym n.in_limits.ensures ∙ not-true _ c.if-not-in_limits.true-raw))
-
-pub compared-seen-requires : goal.compared-seen-requires
-compared-seen-requires c =
-    let i = in-numbered (goal.at.compared-seen-requires c).After-numbered-label in
-    let h = claimed (from_start i) in
-    record { pos_bound = h.r-period; stands = h.claim; standing = claim-standing h i.loop-t.invariant.1.1 }
-
-pub overflow_add-t : goal.overflow_add-t
-overflow_add-t c =
-    let i = in-numbered (goal.at.overflow_add-t c).After-numbered-label in
-    omega (arith, i.loop-t-test.true, (from_start i).ranges.period)
-
-pub loop-t-smaller : goal.loop-t-smaller
-loop-t-smaller c = omega (arith, (in-numbered (goal.at.loop-t-smaller c).After-numbered-label).loop-t-test.true)
 
 pub loop-t-preserved : goal.loop-t-preserved
 loop-t-preserved c =

@@ -11,19 +11,19 @@ use Rattle.integers.proofs.Machine.{plain, test-eq}
 use Rattle.cursors.specs.Found.{found}
 use Rattle.match_unary.proofs.Counting.{counts_past, counts_same, counts-next}
 use Rattle.match_unary.proofs.next_counted.Goals as goal
-use Rattle.match_unary.proofs.next_counted.Goals.{After-struct_told-1, In-At, Start}
+use Rattle.match_unary.proofs.next_counted.Goals.{After-struct_told-1, In-Some, Start}
 
 -- the label, and the last one before it
 abbrev start : After-struct_told-1 → Start
 start c = (goal.at.After-struct_told-1 c).Start
 
-label_is : (c : After-struct_told-1) → let l = (goal.at.After-struct_told-1 c).In-At in found (start c).args.label ≡ some l.in-At.j
-label_is c = ap found c.in-At.is
+label_is : (c : After-struct_told-1) → let l = (goal.at.After-struct_told-1 c).In-Some in found (start c).args.label ≡ some l.in-Some.j
+label_is c = ap found c.in-Some.is
 
-label-fits : (c : After-struct_told-1) → SFits w64 c.in-At.j
+label-fits : (c : After-struct_told-1) → SFits w64 c.in-Some.j
 label-fits c = search rules
 
-is_last : (c : After-struct_told-1) → let j = c.in-At.j in
+is_last : (c : After-struct_told-1) → let j = c.in-Some.j in
     (of_z w64 j ≡ of_z w64 (start c).args.k.last) ↔ (j ≡ (start c).args.k.last)
 is_last c = test-eq w64 _ _ (label-fits c) (search rules)
 
@@ -47,5 +47,5 @@ returns-else-j-k c a t v k e =
     rw (to_z-of_z j, to_z-of_z {w = w64} (sfits_of c.next_number.type_inv))
     (counts-next v k _ _ (sym e ∙ label_is d) (λ q. c.if-j-k.false ((is_last d).1 q)) (simp plain at c.next_number.ensures))
 
-pub returns-in-Nothing : goal.returns-in-Nothing
-returns-in-Nothing c a t v k e = counts_past v k (sym e ∙ ap found c.in-Nothing.is)
+pub returns-in-None : goal.returns-in-None
+returns-in-None c a t v k e = counts_past v k (sym e ∙ ap found c.in-None.is)

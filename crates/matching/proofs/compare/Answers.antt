@@ -1,5 +1,7 @@
 -- `matching::compare` meets its contract: each kind has a loop that does.
 -- Assumes nothing.
+use Rattle.calendar.specs.declared.Refusal.{Refusal}
+use Rattle.std.specs.Prelude.{Result, Bool}
 use borrow.Author.Rules.{rules}
 use mathlib.Core.Path.{◌≡◌, sym, ◌∙◌, ap, subst}
 use mir.Facts.{to_z-of_z}
@@ -10,7 +12,6 @@ use Rattle.kinds.specs.declared.Kind.TheVariants.{Group, Shift, Renumber}
 use Rattle.kinds.specs.Operations.{operation_of}
 use Rattle.kinds.specs.Stands.{row_in}
 use Rattle.fill_shared.specs.Fillable.{Fillable}
-use Rattle.match_shared.specs.declared.Matched.{Matched}
 use Rattle.match_shared.specs.Claims.{Claimed}
 use Rattle.match_shared.specs.Matching.{matched_as}
 use Rattle.matching.proofs.compare.Goals as goal
@@ -26,7 +27,7 @@ module _ (s : Start) (k : Kind) (e : s.args.kind ≡ k) where
       rw (to_z-of_z s.ranges.span)
       (subst (λ (m : Kind). Fillable m (row_in p a.a) (row_in p a.b) × Claimed m a.a a.b a.r a.span a.period p) e (s.requires.fillable, s.requires.claimed))
 
-  found : (m : Matched) → let a = s.args in let p = a.pool.now in
+  found : (m : Result Bool Refusal) → let a = s.args in let p = a.pool.now in
       m ≡ matched_as (operation_of k (row_in p a.a) (row_in p a.b)) (row_in p a.r)
       → m ≡ matched_as (operation_of a.kind (row_in p a.a) (row_in p a.b)) (row_in p a.r)
   found m h =

@@ -3,11 +3,9 @@
 use mathlib.Core.Path.{◌≡◌}
 use mathlib.Core.Option.{some}
 use mathlib.Core.List.{List}
-use Prim.Native.Nat.{ℕ, ◌-◌, ◌≤◌, ◌<◌}
+use Prim.Native.Nat.{ℕ, ◌≤◌, ◌<◌}
 use lib.IntN.{ℤ, pos, ◌+ℤ◌}
-use lib.ListN.{length, get_or}
-use mir.Syntax.{w32}
-use mir.Val.{SFits}
+use lib.ListN.{get_or}
 use Rattle.calendar.specs.Meaning.{label_of, empty}
 use Rattle.one_cell.specs.Along.{Along}
 use Rattle.one_cell.proofs.others.Given as goal
@@ -18,14 +16,9 @@ At c cells k = (j : ℤ) → label_of (get_or cells k empty) ≡ some j → j �
 
 pub record Inv (c : ℤ) (cells : List ℤ) (count : ℕ) (label : ℤ) (i : ℕ) : Type 0 where
   pub few : count ≤ i
-  pub within : i ≤ length cells
-  pub fits : SFits w32 (c +ℤ pos i)
   pub next : label ≡ c +ℤ pos i
   pub none : count ≡ 0 → (k : ℕ) → k < i → At c cells k
   pub along : Along c cells → count ≡ 0
 
-abbrev pub invariant-loop-i : goal.invariant-loop-i
-invariant-loop-i l = Inv l.first l.cells l.count l.label l.i
-
-abbrev pub decreases-loop-i : goal.decreases-loop-i
-decreases-loop-i l = length l.cells - l.i
+abbrev pub invariant-loop-z : goal.invariant-loop-z
+invariant-loop-z l = Inv l.first l.cells l.count l.label l.z-index

@@ -21,12 +21,12 @@ replied c =
     let g = s.ranges.t in
     simp plain at c.count-counted.ensures
 
-pub returns-in-Is : goal.returns-in-Is
-returns-in-Is c =
-    let e = sym (ap number_reply c.in-Is.is) ∙ replied (goal.at.returns-in-Is c).After-count-counted in
+pub returns-in-Ok : goal.returns-in-Ok
+returns-in-Ok c =
+    let e = sym (ap number_reply c.in-Ok.is) ∙ replied (goal.at.returns-in-Ok c).After-count-counted in
     to_z-of_z {w = w64} (search rules) ∙ ap count_code e
 
-pub returns-in-Refused : goal.returns-in-Refused
-returns-in-Refused c =
-    let e = sym (ap number_reply c.in-Refused.is) ∙ replied (goal.at.returns-in-Refused c).After-count-counted in
+pub returns-in-Err : goal.returns-in-Err
+returns-in-Err c =
+    let e = sym (ap number_reply c.in-Err.is) ∙ replied (goal.at.returns-in-Err c).After-count-counted in
     to_z-of_z {w = w64} (sfits_of c.refusal_code.type_inv) ∙ c.refusal_code.ensures ∙ ap count_code e

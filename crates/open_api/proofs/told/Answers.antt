@@ -8,12 +8,12 @@ use Rattle.codes.specs.Codes.{value_code, value_left}
 use Rattle.open_map.specs.Answers.{instant_reply}
 use Rattle.open_api.proofs.told.Goals as goal
 
-pub returns-in-At : goal.returns-in-At
-returns-in-At c =
-    let e = sym (ap instant_reply c.in-At.is) in
+pub returns-in-Ok : goal.returns-in-Ok
+returns-in-Ok c =
+    let e = sym (ap instant_reply c.in-Ok.is) in
     record { code = ap value_code e; found = to_z-of_z {w = w64} (search rules) ∙ ap value_left e }
 
-pub returns-in-Refused : goal.returns-in-Refused
-returns-in-Refused c =
-    let e = sym (ap instant_reply c.in-Refused.is) in
+pub returns-in-Err : goal.returns-in-Err
+returns-in-Err c =
+    let e = sym (ap instant_reply c.in-Err.is) in
     record { code = to_z-of_z {w = w64} (sfits_of c.refusal_code.type_inv) ∙ c.refusal_code.ensures ∙ ap value_code e; found = ap value_left e }

@@ -15,8 +15,9 @@ use Rattle.open_steps.specs.Steps.{nth_open}
 use Rattle.open_map.specs.Maps.{Map, map_given, map_sound, is_open}
 use Rattle.open_steps.specs.Inquiries.{may_step, nth_reply}
 use Rattle.granules.proofs.Replies.{passed, failed}
+use Rattle.open_steps.proofs.Replied.{step-replied}
 use Rattle.open_steps.proofs.nth.Goals as goal
-use Rattle.open_steps.proofs.nth.Goals.{After-may_step, After-nth_of-instant, After-sound, Else-not-may_step, Else-not-sound, Start}
+use Rattle.open_steps.proofs.nth.Goals.{After-may_step, After-nth_of, After-sound, Else-not-may_step, Else-not-sound, Start}
 
 abbrev map : Start → Map
 map s = map_given s.args.period s.args.words.now
@@ -45,29 +46,25 @@ returns-then-not-may_step c = sym (passed 13 _ (is-sound (goal.at.returns-then-n
 is-near : (c : Else-not-may_step) → let s = (goal.at.Else-not-may_step c).Start in may_step s.args.x s.args.n ≡ true
 is-near c = sym (ranged (goal.at.Else-not-may_step c).After-may_step) ∙ not-false _ c.if-not-may_step.false-raw
 
-pub nth_of-instant-requires : goal.nth_of-instant-requires
-nth_of-instant-requires c =
-    let s = (goal.at.nth_of-instant-requires c).Start in
+pub nth_of-requires : goal.nth_of-requires
+nth_of-requires c =
+    let s = (goal.at.nth_of-requires c).Start in
     let p = s.ranges.period in
     let f = s.ranges.x in
     let g = s.ranges.n in
-    record { sound = simp plain (is-sound (goal.at.nth_of-instant-requires c).Else-not-sound); n_value = simp plain (is-near c) }
+    record { sound = simp plain (is-sound (goal.at.nth_of-requires c).Else-not-sound); n_value = simp plain (is-near c) }
 
 -- what the question answers, by the instant found
-replied : (c : After-nth_of-instant) → let s = (goal.at.After-nth_of-instant c).Start in nth_reply (map s) s.args.x s.args.n ≡ answer (found c.nth_of-instant.result)
+replied : (c : After-nth_of) → let s = (goal.at.After-nth_of c).Start in nth_reply (map s) s.args.x s.args.n ≡ answer (found c.nth_of.result)
 unfolding nth_reply
 replied c =
-    let d = (goal.at.After-nth_of-instant c).Else-not-may_step in
+    let d = (goal.at.After-nth_of c).Else-not-may_step in
     let s = (goal.at.Else-not-may_step d).Start in
     let p = s.ranges.period in
     let f = s.ranges.x in
     let g = s.ranges.n in
-    let e : found c.nth_of-instant.result ≡ nth_open (up s.args.period) (is_open (map s)) s.args.x s.args.n = simp plain at c.nth_of-instant.ensures in
+    let e : found c.nth_of.result ≡ nth_open (up s.args.period) (is_open (map s)) s.args.x s.args.n = simp plain at c.nth_of.ensures in
     passed 13 _ (is-sound (goal.at.Else-not-may_step d).Else-not-sound) ∙ passed 14 _ (is-near d) ∙ ap answer (sym e)
 
-pub returns-in-At : goal.returns-in-At
-returns-in-At c =
-    ap answer (ap some (to_z-of_z {w = w64} (search rules)) ∙ sym (ap found c.in-At.is)) ∙ sym (replied (goal.at.returns-in-At c).After-nth_of-instant)
-
-pub returns-in-Nothing : goal.returns-in-Nothing
-returns-in-Nothing c = ap answer (sym (ap found c.in-Nothing.is)) ∙ sym (replied (goal.at.returns-in-Nothing c).After-nth_of-instant)
+pub returns : goal.returns
+returns c = step-replied c.nth_of.result ∙ sym (replied (goal.at.returns c).After-nth_of)

@@ -20,7 +20,7 @@ use Rattle.containment.proofs.Places.{instant-is}
 use Rattle.parts.specs.Walk.{Roomy}
 use Rattle.parts.proofs.WalkGaps.{gap-start, gap-label, gap_step, gap-less}
 use Rattle.parts.proofs.nearest_label.Goals as goal
-use Rattle.parts.proofs.nearest_label.Goals.{After-cursor_label-label, After-cursor_step-c, At-loop-j, In-At, Start as Start-place}
+use Rattle.parts.proofs.nearest_label.Goals.{After-cursor_label-label, After-cursor_step-c, At-loop-j, In-Some, Start as Start-place}
 
 -- the row as the machine has it
 abbrev Start : Type 0
@@ -73,17 +73,17 @@ label_is : (c : After-cursor_label-label) → meant (row (goal.at.After-cursor_l
 label_is c = sym (c.cursor_label-label.ensures (here (goal.at.After-cursor_label-label c).At-loop-j) c.loop-j.invariant.cursor)
 
 -- a label
-label-fits : (c : In-At) → SFits w64 c.in-At.j
+label-fits : (c : In-Some) → SFits w64 c.in-Some.j
 label-fits c = search rules
 
-pub returns-in-At : goal.returns-in-At
-returns-in-At c =
-    let l = (goal.at.returns-in-At c).After-cursor_label-label in
+pub returns-in-Some : goal.returns-in-Some
+returns-in-Some c =
+    let l = (goal.at.returns-in-Some c).After-cursor_label-label in
     let s = (goal.at.After-cursor_label-label l).Start in
     let p = s.ranges.period in
     let d = s.ranges.distance in
     let k = label-fits c in
-    let x = gap-label s.args.back (row s) (rules_own s) (begin s) l.loop-j.c (here (goal.at.After-cursor_label-label l).At-loop-j) l.loop-j.invariant _ (label_is l ∙ ap found c.in-At.is) in
+    let x = gap-label s.args.back (row s) (rules_own s) (begin s) l.loop-j.c (here (goal.at.After-cursor_label-label l).At-loop-j) l.loop-j.invariant _ (label_is l ∙ ap found c.in-Some.is) in
     simp plain (simp plain at x)
 
 -- none

@@ -1,5 +1,7 @@
 -- `parts::parts_of` meets its contract: it is a walk over the granule.
 -- Assumes nothing.
+use Rattle.std.specs.Prelude as Prelude
+use Rattle.std.specs.Prelude.{None}
 use borrow.Author.Rules.{rules, sfits_of}
 use mathlib.Core.Path.{◌≡◌, refl, sym, ◌∙◌, ap, subst, subst₂}
 use mathlib.Core.Logic.{⊎_elim}
@@ -29,8 +31,6 @@ use Rattle.containment.specs.Places.{instant}
 use Rattle.containment.proofs.Places.{instant-is}
 use Rattle.parts.specs.declared.Part.{Part}
 use Rattle.parts.specs.declared.Part.TheVariants.{Next, Outside}
-use Rattle.parts.specs.declared.Walked.{Walked}
-use Rattle.parts.specs.declared.Walked.TheVariants.{Incomplete}
 use Rattle.parts.specs.Walk.{Nearest, PartAt, EndAt, PartsOf}
 use Rattle.parts.proofs.Shown.{Shows, shows_nothing, shows-past, shows_more}
 use Rattle.parts.proofs.WalkGaps.{roomy}
@@ -87,7 +87,7 @@ begins s =
     simp plain s.requires.first_instant
 
 -- what is found of these is found of those that are handed in
-plainly : (s : Start) (p : List ℤ) (x : Walked) → PartsOf (h-row s) (g-row s) (Z s) p x
+plainly : (s : Start) (p : List ℤ) (x : Prelude.Option ℕ) → PartsOf (h-row s) (g-row s) (Z s) p x
     → PartsOf (given s.args.h_period s.args.h_distance s.args.h_cells.now) (given s.args.g_period s.args.g_distance s.args.g_cells.now) s.args.z p x
 plainly s p x y =
     let f = s.ranges.h_period in
@@ -314,5 +314,5 @@ returns-in-Broken c =
     let n = at_next a in
     let l = c.loop-k in
     let s = start a in
-    plainly s l.parts Incomplete
+    plainly s l.parts None
     (walk-broken (h-rules s) (g-rules s) (begins s) l.invariant (h-next n) (g-next n) (next-is n) (subst (Says a) c.in-Broken.is (says a)))

@@ -17,7 +17,7 @@ use Rattle.questions.specs.Answers.{parts_reply, counted, parts_after}
 use Rattle.questions_api.specs.Codes.{down_code}
 use Rattle.questions_api.proofs.Counts.{count-within}
 use Rattle.questions_api.proofs.down.Goals as goal
-use Rattle.questions_api.proofs.down.Goals.{After-down-parted, In-Parts, Start}
+use Rattle.questions_api.proofs.down.Goals.{After-down-parted, In-Ok, Start}
 
 abbrev room : Start → ℕ
 room s = length s.args.parts.now
@@ -45,23 +45,23 @@ replied c =
     (simp plain at c.down-parted.ensures.answer, simp plain at c.down-parted.ensures.list)
 
 -- the count is below half of the numbers of 64 bits
-small : (c : In-Parts) → c.in-Parts.n < 2 ^ 63
+small : (c : In-Ok) → c.in-Ok.n < 2 ^ 63
 small c =
-    let d = (goal.at.In-Parts c).After-down-parted in
-    let l : length c.down-parted.new.parts ≡ room (goal.at.In-Parts c).Start = search rules in
-    let h = count-within (reply (goal.at.In-Parts c).Start) (sym (ap parts_reply c.in-Parts.is) ∙ (replied d).0) (replied d).1 l in
-    let m : room (goal.at.In-Parts c).Start < 2 ^ 63 = search rules in
+    let d = (goal.at.In-Ok c).After-down-parted in
+    let l : length c.down-parted.new.parts ≡ room (goal.at.In-Ok c).Start = search rules in
+    let h = count-within (reply (goal.at.In-Ok c).Start) (sym (ap parts_reply c.in-Ok.is) ∙ (replied d).0) (replied d).1 l in
+    let m : room (goal.at.In-Ok c).Start < 2 ^ 63 = search rules in
     omega (arith, h, m)
 
 pub overflow_cast-result : goal.overflow_cast-result
-overflow_cast-result c = count_fits c.in-Parts.n (small c)
+overflow_cast-result c = count_fits c.in-Ok.n (small c)
 
-pub returns-in-Parts : goal.returns-in-Parts
-returns-in-Parts c =
-    let d = replied (goal.at.returns-in-Parts c).After-down-parted in
-    record { code = count-back c.in-Parts.n (small (goal.at.returns-in-Parts c).In-Parts) ∙ ap down_code (sym (ap parts_reply c.in-Parts.is) ∙ d.0); list = d.1 }
+pub returns-in-Ok : goal.returns-in-Ok
+returns-in-Ok c =
+    let d = replied (goal.at.returns-in-Ok c).After-down-parted in
+    record { code = count-back c.in-Ok.n (small (goal.at.returns-in-Ok c).In-Ok) ∙ ap down_code (sym (ap parts_reply c.in-Ok.is) ∙ d.0); list = d.1 }
 
-pub returns-in-Refused : goal.returns-in-Refused
-returns-in-Refused c =
-    let d = replied (goal.at.returns-in-Refused c).After-down-parted in
-    record { code = to_z-of_z {w = w64} (sfits_of c.refusal_code.type_inv) ∙ c.refusal_code.ensures ∙ ap down_code (sym (ap parts_reply c.in-Refused.is) ∙ d.0); list = d.1 }
+pub returns-in-Err : goal.returns-in-Err
+returns-in-Err c =
+    let d = replied (goal.at.returns-in-Err c).After-down-parted in
+    record { code = to_z-of_z {w = w64} (sfits_of c.refusal_code.type_inv) ∙ c.refusal_code.ensures ∙ ap down_code (sym (ap parts_reply c.in-Err.is) ∙ d.0); list = d.1 }

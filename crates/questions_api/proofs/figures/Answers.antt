@@ -30,17 +30,17 @@ replied c =
 clash : {b : Bool} → b ≡ true → b ≡ false → ⊥
 clash t f = let z : ◌≡◌ {A = ℕ} 0 1 = cc in omega arith
 
-pub returns-in-Are : goal.returns-in-Are
-returns-in-Are c =
-    let d = (goal.at.returns-in-Are c).After-figures-figured in
-    let h = subst (FiguresOf (row (goal.at.After-figures-figured d).Start) d.args.granules) c.in-Are.is (replied d) in
+pub returns-in-Ok : goal.returns-in-Ok
+returns-in-Ok c =
+    let d = (goal.at.returns-in-Ok c).After-figures-figured in
+    let h = subst (FiguresOf (row (goal.at.After-figures-figured d).Start) d.args.granules) c.in-Ok.is (replied d) in
     record { is = ap figures_code (sym h.0); figures = λ _. h.1; zeros = λ f. absurd (clash h.0 f) }
 
-pub returns-in-Refused : goal.returns-in-Refused
+pub returns-in-Err : goal.returns-in-Err
 unfolding of_bits
-returns-in-Refused c =
-    let d = (goal.at.returns-in-Refused c).After-figures-figured in
-    let h = subst (FiguresOf (row (goal.at.After-figures-figured d).Start) d.args.granules) c.in-Refused.is (replied d) in
+returns-in-Err c =
+    let d = (goal.at.returns-in-Err c).After-figures-figured in
+    let h = subst (FiguresOf (row (goal.at.After-figures-figured d).Start) d.args.granules) c.in-Err.is (replied d) in
     record {
       is = to_z-of_z {w = w64} (sfits_of c.refusal_code.type_inv) ∙ c.refusal_code.ensures ∙ ap refusal_code h.1 ∙ ap figures_code (sym h.0);
       figures = λ f. absurd (clash f h.0);

@@ -36,17 +36,17 @@ small s p n e = omega (arith, tried-within (row s) p n e)
 pub overflow_cast-tried : goal.overflow_cast-tried
 overflow_cast-tried c =
     let d = (goal.at.overflow_cast-tried c).After-least_period-shortening in
-    count_fits _ (small (goal.at.After-least_period-shortening d).Start _ _ (sym (ap shortening_reply c.in-To.is) ∙ replied d))
+    count_fits _ (small (goal.at.After-least_period-shortening d).Start _ _ (sym (ap shortening_reply c.in-Ok.is) ∙ replied d))
 
-pub returns-in-To : goal.returns-in-To
-returns-in-To c =
-    let d = (goal.at.returns-in-To c).After-least_period-shortening in
-    let e = sym (ap shortening_reply c.in-To.is) ∙ replied d in
-    let f : SFits w64 c.in-To.shortest.period = search rules in
+pub returns-in-Ok : goal.returns-in-Ok
+returns-in-Ok c =
+    let d = (goal.at.returns-in-Ok c).After-least_period-shortening in
+    let e = sym (ap shortening_reply c.in-Ok.is) ∙ replied d in
+    let f : SFits w64 c.in-Ok.shortest.period = search rules in
     record { code = to_z-of_z f ∙ ap least_code e; tried = count-back _ (small (goal.at.After-least_period-shortening d).Start _ _ e) ∙ ap tried_left e }
 
-pub returns-in-Refused : goal.returns-in-Refused
-returns-in-Refused c =
-    let d = (goal.at.returns-in-Refused c).After-least_period-shortening in
-    let e = sym (ap shortening_reply c.in-Refused.is) ∙ replied d in
+pub returns-in-Err : goal.returns-in-Err
+returns-in-Err c =
+    let d = (goal.at.returns-in-Err c).After-least_period-shortening in
+    let e = sym (ap shortening_reply c.in-Err.is) ∙ replied d in
     record { code = to_z-of_z {w = w64} (sfits_of c.refusal_code.type_inv) ∙ c.refusal_code.ensures ∙ ap least_code e; tried = ap tried_left e }

@@ -25,7 +25,7 @@ use Rattle.row_check.specs.Order.{risen, labels_sound}
 use Rattle.cursors.proofs.Numbers.{read_as}
 use Rattle.row_check.proofs.Order.{sound_empty, sound-falls, sound-rises}
 use Rattle.row_check.proofs.labels_sound.Goals as goal
-use Rattle.row_check.proofs.labels_sound.Goals.{After-last_label-end, After-wide-first, Else-last-gt-GREATEST_LABEL, In-At, Start}
+use Rattle.row_check.proofs.labels_sound.Goals.{After-last_label-end, After-wide-first, Else-last-gt-GREATEST_LABEL, In-Some, Start}
 
 pub returns-then-cells-start : goal.returns-then-cells-start
 returns-then-cells-start c = sym (sound_empty (up c.args.distance) c.args.cells.now (omega arith))
@@ -57,32 +57,32 @@ returns-in_default c =
     sym (sound-falls (up a.args.distance) (cells a) empty (some-label a) (sym (end_is l) ∙ ap found c.in_default.is))
 
 -- the test that is left
-abbrev N : In-At → ℕ
+abbrev N : In-Some → ℕ
 N c = up c.args.distance
 
-abbrev last : In-At → ℤ
-last c = c.in-At.last
+abbrev last : In-Some → ℤ
+last c = c.in-Some.last
 
-last_fits : (c : In-At) → SFits w64 (last c)
-last_fits c = sfits_of c.in-At.known_told-1-own.given.0.1
+last_fits : (c : In-Some) → SFits w64 (last c)
+last_fits c = sfits_of c.in-Some.known_told-1-own.given.0.1
 
-test : (c : In-At) → (labels_sound (N c) (cells (goal.at.In-At c).After-wide-first) ≡ true)
-    ↔ (((negsuc 999999999 ≤ℤ first (goal.at.In-At c).After-wide-first) × (last c ≤ℤ pos 1000000000)) × (last c ≤ℤ (first (goal.at.In-At c).After-wide-first +ℤ pos (N c))))
+test : (c : In-Some) → (labels_sound (N c) (cells (goal.at.In-Some c).After-wide-first) ≡ true)
+    ↔ (((negsuc 999999999 ≤ℤ first (goal.at.In-Some c).After-wide-first) × (last c ≤ℤ pos 1000000000)) × (last c ≤ℤ (first (goal.at.In-Some c).After-wide-first +ℤ pos (N c))))
 test c =
-    let l = (goal.at.In-At c).After-last_label-end in
+    let l = (goal.at.In-Some c).After-last_label-end in
     let a = (goal.at.After-last_label-end l).After-wide-first in
-    sound-rises (N c) (cells a) empty (some-label a) (last c) (sym (end_is l) ∙ ap found c.in-At.is)
+    sound-rises (N c) (cells a) empty (some-label a) (last c) (sym (end_is l) ∙ ap found c.in-Some.is)
 
 pub returns-then-first-lt-LEAST_LABEL : goal.returns-then-first-lt-LEAST_LABEL
 returns-then-first-lt-LEAST_LABEL c =
-    let k = (goal.at.returns-then-first-lt-LEAST_LABEL c).In-At in
-    let a = (goal.at.In-At k).After-wide-first in
+    let k = (goal.at.returns-then-first-lt-LEAST_LABEL c).In-Some in
+    let a = (goal.at.In-Some k).After-wide-first in
     let h = (test-lt _ _).0 (rw (first-is a) at c.if-first-lt-LEAST_LABEL.true) in
     sym ((false-iff (test k)).1 (λ t. clash_ℤ h t.0.0))
 
 pub returns-then-last-gt-GREATEST_LABEL : goal.returns-then-last-gt-GREATEST_LABEL
 returns-then-last-gt-GREATEST_LABEL c =
-    let k = (goal.at.returns-then-last-gt-GREATEST_LABEL c).In-At in
+    let k = (goal.at.returns-then-last-gt-GREATEST_LABEL c).In-Some in
     let h = (test-lt _ _).0 (rw (to_z-of_z (last_fits k)) at c.if-last-gt-GREATEST_LABEL.true) in
     sym ((false-iff (test k)).1 (λ t. clash_ℤ h t.0.1))
 
@@ -92,13 +92,13 @@ sum c =
     let a = (goal.at.Else-last-gt-GREATEST_LABEL c).After-wide-first in
     to_z w64 (of_z w64 a.wide-first.result) +ℤ to_z w64 (of_z w64 a.args.distance)
 
-sum_is : (c : Else-last-gt-GREATEST_LABEL) → sum c ≡ first (goal.at.Else-last-gt-GREATEST_LABEL c).After-wide-first +ℤ pos (N (goal.at.Else-last-gt-GREATEST_LABEL c).In-At)
+sum_is : (c : Else-last-gt-GREATEST_LABEL) → sum c ≡ first (goal.at.Else-last-gt-GREATEST_LABEL c).After-wide-first +ℤ pos (N (goal.at.Else-last-gt-GREATEST_LABEL c).In-Some)
 sum_is c =
     let a = (goal.at.Else-last-gt-GREATEST_LABEL c).After-wide-first in
     let s = (goal.at.After-wide-first a).Start in
     ap₂ ◌+ℤ◌ (first-is a) (to_z-of_z s.ranges.distance ∙ sym (pos-up s.requires.0))
 
-sum_fits : (c : Else-last-gt-GREATEST_LABEL) → SFits w64 (first (goal.at.Else-last-gt-GREATEST_LABEL c).After-wide-first +ℤ pos (N (goal.at.Else-last-gt-GREATEST_LABEL c).In-At))
+sum_fits : (c : Else-last-gt-GREATEST_LABEL) → SFits w64 (first (goal.at.Else-last-gt-GREATEST_LABEL c).After-wide-first +ℤ pos (N (goal.at.Else-last-gt-GREATEST_LABEL c).In-Some))
 sum_fits c =
     let a = (goal.at.Else-last-gt-GREATEST_LABEL c).After-wide-first in
     let s = (goal.at.After-wide-first a).Start in
@@ -109,8 +109,8 @@ overflow_add-result c = subst (SFits w64) (sym (sum_is c)) (sum_fits c)
 
 pub returns : goal.returns
 returns c =
-    let k = (goal.at.returns c).In-At in
-    let a = (goal.at.In-At k).After-wide-first in
+    let k = (goal.at.returns c).In-Some in
+    let a = (goal.at.In-Some k).After-wide-first in
     let low = (test-not-lt _ _).0 (rw (first-is a) at c.if-first-lt-LEAST_LABEL.false) in
     let high = (test-not-lt _ _).0 (rw (to_z-of_z (last_fits k)) at c.if-last-gt-GREATEST_LABEL.false) in
     let e = read_as {w = w64} {x = sum c} (sum_is c) (sum_fits c) in

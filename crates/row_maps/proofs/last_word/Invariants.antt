@@ -2,7 +2,7 @@
 -- Assumes nothing.
 use mathlib.Core.Path.{◌≡◌}
 use mathlib.Core.List.{List}
-use Prim.Native.Nat.{ℕ, ◌+◌, ◌*◌, ◌-◌, ◌≤◌}
+use Prim.Native.Nat.{ℕ, ◌+◌, ◌*◌}
 use lib.IntN.{ℤ}
 use Rattle.row_maps.specs.Making.{labelled, packed}
 use Rattle.row_maps.proofs.last_word.Given as goal
@@ -12,7 +12,4 @@ abbrev pub bits : List ℤ → ℕ → ℕ → ℕ
 bits cells i = λ k. labelled cells (64 * i + k)
 
 abbrev pub invariant-loop-k : goal.invariant-loop-k
-invariant-loop-k l = (l.k ≤ 64) × (l.word ≡ packed (bits l.cells l.i) l.k)
-
-abbrev pub decreases-loop-k : goal.decreases-loop-k
-decreases-loop-k l = 64 - l.k
+invariant-loop-k l = l.word ≡ packed (bits l.cells l.i) l.k

@@ -1,15 +1,15 @@
 -- `sheet_lines::magnitude` meets its contract, by cases on the sign.
 -- Assumes nothing.
+use Rattle.std.specs.Prelude.{ℤ}
 use mathlib.Core.Path.{◌≡◌}
 use Prim.Native.Nat.{◌+◌}
 use lib.Dec.{T}
-use lib.IntN.{ℤ, pos, negsuc, nat_abs, ◌-ℤ◌}
+use lib.IntN.{pos, negsuc, nat_abs, ◌-ℤ◌}
 use lib.Signed.{◌<ℤ◌, non_neg}
 use mir.Syntax.{w32, w64}
 use mir.Val.{SFits, Fits, to_z, of_z}
 use Rattle.integers.proofs.Machine.{plain}
 use Rattle.sheet_lines.proofs.Magnitudes.{wide, wide_fits, difference-fits, back_fits, sum_fits, sum_is, by-negative, by-positive, natural-fits}
-use borrow.Author.Rules.{rules}
 use Rattle.sheet_lines.proofs.magnitude.Goals as goal
 use Rattle.sheet_lines.proofs.magnitude.Goals.{Then-v-lt0}
 

@@ -1,7 +1,6 @@
 -- `sheet_lines::push` meets its contract.
 -- Assumes nothing.
 use Rattle.sheet_lines.proofs.Laying.{byte_fits, byte-lost}
-use borrow.Author.Rules.{rules}
 use Rattle.sheet_lines.proofs.push.Goals as goal
 
 pub returns-then-at-out : goal.returns-then-at-out

@@ -7,7 +7,6 @@ use Rattle.table_text.specs.Numerals.{numeral}
 use Rattle.sheet_lines.proofs.Laying.{relay}
 use Rattle.sheet_lines.proofs.Magnitudes.{narrow-is}
 use Rattle.sheet_lines.proofs.Words.{empty-cell, label-cell, empty-by, not-empty-by}
-use borrow.Author.Rules.{rules}
 use Rattle.sheet_lines.proofs.write_cell.Goals as goal
 use Rattle.sheet_lines.proofs.write_cell.Goals.{Start}
 

@@ -8,7 +8,6 @@ use Rattle.integers.proofs.Machine.{plain}
 use Rattle.sheet_lines.proofs.Laying.{relay}
 use Rattle.sheet_lines.proofs.Magnitudes.{narrow-is}
 use Rattle.sheet_lines.proofs.Words.{signed, unsigned}
-use borrow.Author.Rules.{rules}
 use Rattle.sheet_lines.proofs.write_number.Goals as goal
 use Rattle.sheet_lines.proofs.write_number.Goals.{After-magnitude, After-magnitude-2, Start}
 

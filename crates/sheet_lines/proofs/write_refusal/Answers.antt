@@ -2,7 +2,6 @@
 -- Assumes nothing.
 use Rattle.sheet_lines.proofs.Laying.{relay}
 use Rattle.sheet_lines.proofs.Lines.{refusal-line}
-use borrow.Author.Rules.{rules}
 use Rattle.sheet_lines.proofs.write_refusal.Goals as goal
 
 pub returns : goal.returns

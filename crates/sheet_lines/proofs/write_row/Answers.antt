@@ -2,7 +2,6 @@
 -- Assumes nothing.
 use Rattle.sheet_lines.proofs.Laying.{relay}
 use Rattle.sheet_lines.proofs.Lines.{row-line}
-use borrow.Author.Rules.{rules}
 use Rattle.sheet_lines.proofs.write_row.Goals as goal
 
 pub returns : goal.returns

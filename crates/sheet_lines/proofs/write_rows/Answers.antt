@@ -1,18 +1,15 @@
 -- `sheet_lines::write_rows` meets its contract. The loop's invariant: the lines of the first i headings have been written.
 -- Assumes nothing.
-use borrow.Author.Rules.{rules}
-use mathlib.Core.Path.{◌≡◌, refl, sym, ap, ◌∙◌}
+use mathlib.Core.Path.{◌≡◌, sym, ap, ◌∙◌}
 use mathlib.Core.List.{List, ◌++◌, append-nil, append_assoc}
-use Prim.Native.Nat.{ℕ, ◌+◌, ◌-◌, ◌*◌, ◌≤◌, ◌<◌}
+use Prim.Native.Nat.{ℕ, ◌+◌, ◌-◌}
 use native.Mathlib.Omega.{arith}
 use native.Mathlib.Nat.{add-sub_cancel_left}
 use native.Mathlib.Numerals.{add-one}
 use lib.IntN.{ℤ}
-use lib.ListN.{length, take, drop}
-use Rattle.calendar.specs.Limits.{heading_length}
+use lib.ListN.{take, drop}
 use Rattle.calendar.specs.Meaning.{Row}
 use Rattle.conversion.specs.Shows.{start_at, period_at, distance_at, end_at}
-use Rattle.sheet_lines.specs.Laid.{Adds}
 use Rattle.sheet_lines.specs.RowLines.{row_line, row_lines}
 use Rattle.sheet_lines.proofs.Laying.{relay}
 use Rattle.sheet_lines.proofs.write_rows.Goals as goal
@@ -30,17 +27,16 @@ one_more headings pool i t =
     ∙ ap (λ (n : ℕ). t ++ row_lines headings pool n) (sym (add-one i))
 
 pub loop-i-init : goal.loop-i-init
-loop-i-init c = (omega arith, refl, λ t o h. relay (sym (append-nil t)) h)
+loop-i-init c = λ t o h. relay (sym (append-nil t)) h
 
 pub loop-i-preserved : goal.loop-i-preserved
 loop-i-preserved c =
-    let a = c.args in (
-      omega arith,
-      c.write_row-place.auto.out ∙ c.loop-i.invariant.1,
-      λ u o h. relay (one_more a.headings.now a.pool.now c.loop-i.i u) (c.write_row-place.ensures _ o (c.loop-i.invariant.2 u o h)),
-    )
+    let a = c.args in
+    λ u o h. relay (one_more a.headings.now a.pool.now c.loop-i.i u)
+    (c.write_row-place.ensures _ o (c.loop-i.invariant u o h))
 
 pub returns : goal.returns
 returns c =
     let a = c.args in
-    λ t o h. relay (ap (λ (i : ℕ). t ++ row_lines a.headings.now a.pool.now i) (let e : c.loop-i.i ≡ a.n = omega arith in e)) (c.loop-i.invariant.2 t o h)
+    let e : c.loop-i.i ≡ a.n = omega arith in
+    λ t o h. relay (ap (λ (i : ℕ). t ++ row_lines a.headings.now a.pool.now i) e) (c.loop-i.invariant t o h)

@@ -5,8 +5,8 @@ use mathlib.Core.List.{[]}
 use Prim.Native.Nat.{◌*◌}
 use Rattle.calendar.specs.Limits.{entry_limit, heading_length}
 use Rattle.table_text.specs.Text.{sheet_pool}
+use Rattle.conversion.specs.Conversion.{Conversion}
 use Rattle.conversion.specs.Left.{Left}
-use Rattle.conversion.specs.declared.Conversion.{Conversion}
 use Rattle.sheet_lines.proofs.Laying.{laid_none, relay}
 use Rattle.sheet_text.proofs.Rows.{printed-refusal, rows-there, printed-rows}
 use Rattle.sheet_text.proofs.lay_converted.Goals as goal
@@ -24,16 +24,16 @@ says a x e = subst (Says a) e (rw ((start a).requires.0, (start a).requires.1) a
 
 pub write_rows-requires : goal.write_rows-requires
 write_rows-requires c =
-    rows-there _ _ _ _ _ (says (goal.at.write_rows-requires c).After-convert-converted _ c.in-Converted.is)
+    rows-there _ _ _ _ _ (says (goal.at.write_rows-requires c).After-convert-converted _ c.in-Ok.is)
 
-pub returns-in-Refused : goal.returns-in-Refused
-returns-in-Refused c =
-    let w = (goal.at.returns-in-Refused c).After-write_refusal in
-    relay (printed-refusal _ _ _ _ _ _ _ (says (goal.at.returns-in-Refused c).After-convert-converted _ c.in-Refused.is))
+pub returns-in-Err : goal.returns-in-Err
+returns-in-Err c =
+    let w = (goal.at.returns-in-Err c).After-write_refusal in
+    relay (printed-refusal _ _ _ _ _ _ _ (says (goal.at.returns-in-Err c).After-convert-converted _ c.in-Err.is))
     (w.write_refusal.ensures [] _ (laid_none _))
 
-pub returns-in-Converted : goal.returns-in-Converted
-returns-in-Converted c =
-    let w = (goal.at.returns-in-Converted c).After-write_rows in
-    relay (printed-rows _ _ _ _ _ (says (goal.at.returns-in-Converted c).After-convert-converted _ c.in-Converted.is))
+pub returns-in-Ok : goal.returns-in-Ok
+returns-in-Ok c =
+    let w = (goal.at.returns-in-Ok c).After-write_rows in
+    relay (printed-rows _ _ _ _ _ (says (goal.at.returns-in-Ok c).After-convert-converted _ c.in-Ok.is))
     (w.write_rows.ensures [] _ (laid_none _))

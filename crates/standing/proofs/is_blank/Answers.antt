@@ -3,11 +3,11 @@
 use mathlib.Core.Path.{◌≡◌, sym, ◌∙◌, ap}
 use mathlib.Core.Bool.{Bool, ◌&&◌}
 use mathlib.Core.List.{List}
-use Prim.Native.Nat.{ℕ, suc, ◌+◌, ◌≤◌, ◌<◌}
+use Prim.Native.Nat.{ℕ, suc, ◌+◌, ◌<◌}
 use native.Mathlib.Omega.{arith}
-use borrow.Author.Rules.{sfits_of}
+use borrow.Author.Rules.{rules}
 use lib.IntN.{ℤ, pos}
-use lib.ListN.{length, get_or, drop, drop_of_length-le}
+use lib.ListN.{length, get_or, drop}
 use lib.Seq.{drop-cons}
 use mir.Syntax.{w32}
 use mir.Val.{of_z}
@@ -37,11 +37,5 @@ loop-i-preserved c =
     let z = get_or l i (pos 0) in
     let n : suc i ≡ i + 1 = omega arith in
     c.loop-i.invariant ∙ next l i c.loop-i-test.true
-    ∙ ap (λ (b : Bool). b && all_empty (drop (suc i) l)) ((equal-iff z empty).1 ((empty-iff z).0 (bits-empty z (sfits_of c.t7-1.given) c.if-pool-i.false)))
+    ∙ ap (λ (b : Bool). b && all_empty (drop (suc i) l)) ((equal-iff z empty).1 ((empty-iff z).0 (bits-empty z (search rules) c.if-pool-i.false)))
     ∙ ap (λ (j : ℕ). all_empty (drop j l)) n
-
-pub returns : goal.returns
-returns c =
-    let l = c.args.pool.now in
-    let h : length l ≤ c.loop-i.i = omega (arith, c.loop-i-test.false) in
-    sym (c.loop-i.invariant ∙ ap all_empty (drop_of_length-le l h))

@@ -1,39 +1,18 @@
--- `standing::is_clear` meets its contract. The loop's invariant: what is left decides.
+-- `standing::is_clear` meets its contract: the chain tests what is left of the list behind its first `start`, or behind them all.
 -- Assumes nothing.
-use mathlib.Core.Path.{◌≡◌, sym, ◌∙◌, ap}
-use mathlib.Core.Bool.{Bool, ◌&&◌}
-use mathlib.Core.List.{List}
-use Prim.Native.Nat.{ℕ, suc, ◌+◌, ◌≤◌, ◌<◌}
-use native.Mathlib.Omega.{arith}
+use Rattle.std.proofs.Common.{◌≡◌, ℕ, ◌-◌, List, length, take, drop, ◌∙◌, arith, rules, length-drop}
+use Prim.Native.Nat.{min}
 use lib.Dec.{eqb}
-use lib.ListN.{length, get_or, drop, drop_of_length-le}
-use lib.Seq.{drop-cons}
-use Rattle.granules.proofs.Tests.{false-iff, eqb-iff}
-use Rattle.standing.specs.Tests.{all_zero}
+use borrow.Author.Tests.{tests}
+use Rattle.std.proofs.lemmas.List.{take_all, drop_min}
+use Rattle.std.proofs.lemmas.Iterator.{YieldsList-from_slice}
+use Rattle.std.proofs.lemmas.Iterator.Search.{all_from_yields_List}
 use Rattle.standing.proofs.is_clear.Goals as goal
 
--- the number at i, and those behind it
-next : (l : List ℕ) (i : ℕ) → i < length l → all_zero (drop i l) ≡ eqb (get_or l i 0) 0 && all_zero (drop (suc i) l)
-next l i h = ap all_zero (drop-cons l i 0 h)
-
-pub returns-then-headings-i-ne0 : goal.returns-then-headings-i-ne0
-returns-then-headings-i-ne0 c =
-    let l = c.args.headings.now in
-    let i = c.loop-i.i in
-    sym (c.loop-i.invariant ∙ next l i c.loop-i-test.true
-    ∙ ap (λ (b : Bool). b && all_zero (drop (suc i) l)) ((false-iff (eqb-iff (get_or l i 0) 0)).1 c.if-headings-i-ne0.true))
-
-pub loop-i-preserved : goal.loop-i-preserved
-loop-i-preserved c =
-    let l = c.args.headings.now in
-    let i = c.loop-i.i in
-    let z : suc i ≡ i + 1 = omega arith in
-    c.loop-i.invariant ∙ next l i c.loop-i-test.true
-    ∙ ap (λ (b : Bool). b && all_zero (drop (suc i) l)) ((eqb-iff (get_or l i 0) 0).1 c.if-headings-i-ne0.false)
-    ∙ ap (λ (j : ℕ). all_zero (drop j l)) z
+tail_is : (l : List ℕ) (i : ℕ) → take (length l - min i (length l)) (drop (min i (length l)) l) ≡ drop i l
+tail_is l i = take_all _ _ (omega (arith, length-drop (min i (length l)) l)) ∙ drop_min i l
 
 pub returns : goal.returns
 returns c =
-    let l = c.args.headings.now in
-    let h : length l ≤ c.loop-i.i = omega (arith, c.loop-i-test.false) in
-    sym (c.loop-i.invariant ∙ ap all_zero (drop_of_length-le l h))
+    let behind = YieldsList-from_slice _ (rw c.min-from.ensures at c.iter.ensures.rest ∙ tail_is c.args.headings.now c.args.start) in
+    all_from_yields_List (λ n. eqb n 0) _ _ _ c.all.ensures.ran behind (λ x b q k. search (rules, tests))

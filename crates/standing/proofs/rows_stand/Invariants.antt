@@ -3,18 +3,14 @@
 use mathlib.Core.Path.{◌≡◌}
 use mathlib.Core.Bool.{true}
 use mathlib.Core.List.{List}
-use Prim.Native.Nat.{ℕ, ◌-◌, ◌≤◌}
+use Prim.Native.Nat.{ℕ}
 use lib.IntN.{ℤ}
 use Rattle.standing.specs.Tests.{rows_stand, EndsAt}
 use Rattle.standing.proofs.rows_stand.Given as goal
 
-pub record Inv (headings : List ℕ) (pool : List ℤ) (k used i : ℕ) : Type 0 where
-  pub within : i ≤ k
+pub record Inv (headings : List ℕ) (pool : List ℤ) (used i : ℕ) : Type 0 where
   pub stand : rows_stand headings pool i ≡ true
   pub ends : EndsAt headings pool i used
 
 abbrev pub invariant-loop-i : goal.invariant-loop-i
-invariant-loop-i l = Inv l.headings l.pool l.k l.used l.i
-
-abbrev pub decreases-loop-i : goal.decreases-loop-i
-decreases-loop-i l = l.k - l.i
+invariant-loop-i l = Inv l.headings l.pool l.used l.i

@@ -1,10 +1,11 @@
 -- `steps::take_entry` meets its contract: the entry is converted behind the rows that stand; what is behind its row is cleared.
 -- Assumes nothing.
+use Rattle.calendar.specs.declared.Refusal.{Refusal}
+use Rattle.std.specs.Prelude.{Result}
 use mathlib.Core.Path.{subst}
 use mathlib.Core.List.{List}
 use Prim.Native.Nat.{ℕ}
 use lib.IntN.{ℤ}
-use Rattle.row_entry.specs.declared.Appended.{Appended}
 use Rattle.row_entry.specs.Stores.{Entered}
 use Rattle.conversion.proofs.Clearing.{cleared-as}
 use Rattle.standing.specs.Standing.{rows_at}
@@ -13,7 +14,7 @@ use Rattle.steps.specs.State.{lengths_in}
 use Rattle.steps.proofs.Testing.{few, stores, entry-due}
 use Rattle.steps.proofs.Taking.{entry-refused, entry-taken}
 use Rattle.steps.proofs.take_entry.Goals as goal
-use Rattle.steps.proofs.take_entry.Goals.{After-clear, After-clear_cells, After-convert_entry-entry, In-Ends, In-Refused, Start}
+use Rattle.steps.proofs.take_entry.Goals.{After-clear, After-clear_cells, After-convert_entry-entry, In-Ok, In-Err, Start}
 
 pub convert_entry-entry-requires : goal.convert_entry-entry-requires
 convert_entry-entry-requires c =
@@ -31,7 +32,7 @@ numbers c = c.convert_entry-entry.new.headings
 abbrev cells : After-convert_entry-entry → List ℤ
 cells c = c.convert_entry-entry.new.pool
 
-abbrev Says : After-convert_entry-entry → Appended → Type 0
+abbrev Says : After-convert_entry-entry → Result ℕ Refusal → Type 0
 Says c x =
     let a = (begun c).args in
     Entered a.table.now a.k (rows_at a.headings.now a.pool.now a.k) x (numbers c) (cells c)
@@ -43,36 +44,36 @@ says c =
     c.convert_entry-entry.ensures.entered _ (rows-length a.headings.now a.pool.now a.k)
     (stores (lengths_in a.lengths) a.k a.table.now a.headings.now a.pool.now s.requires.pool_value a.used s.requires.ends_at)
 
-abbrev taking : In-Ends → After-convert_entry-entry
-taking c = (goal.at.In-Ends c).After-convert_entry-entry
+abbrev taking : In-Ok → After-convert_entry-entry
+taking c = (goal.at.In-Ok c).After-convert_entry-entry
 
 pub clear_cells-requires : goal.clear_cells-requires
 clear_cells-requires c =
-    let k = (goal.at.clear_cells-requires c).In-Ends in
+    let k = (goal.at.clear_cells-requires c).In-Ok in
     let e = taking k in
-    (subst (Says e) k.in-Ends.is (says e)).2.fits
+    (subst (Says e) k.in-Ok.is (says e)).2.fits
 
 pub progress_behind-requires : goal.progress_behind-requires
 progress_behind-requires c =
-    let s = begun (taking (goal.at.progress_behind-requires c).In-Ends) in
+    let s = begun (taking (goal.at.progress_behind-requires c).In-Ok) in
     let a = s.args in
     few (lengths_in a.lengths) a.k a.table.now a.headings.now a.pool.now s.requires.pool_value
 
-pub returns-in-Refused : goal.returns-in-Refused
-returns-in-Refused c =
-    let l = (goal.at.returns-in-Refused c).After-clear in
-    let k = (goal.at.After-clear l).In-Refused in
-    let e = (goal.at.In-Refused k).After-convert_entry-entry in
+pub returns-in-Err : goal.returns-in-Err
+returns-in-Err c =
+    let l = (goal.at.returns-in-Err c).After-clear in
+    let k = (goal.at.After-clear l).In-Err in
+    let e = (goal.at.In-Err k).After-convert_entry-entry in
     let a = (begun e).args in
     rw c.number.ensures
-    (entry-refused a.lengths a.k a.table.now a.headings.now a.pool.now k.in-Refused.refusal (numbers e) (cells e) e.convert_entry-entry.ensures.lengths.1
-    (subst (Says e) k.in-Refused.is (says e)) _ _ (cleared-as e.convert_entry-entry.ensures.lengths.0 e.convert_entry-entry.ensures.lengths.1 l.clear.ensures))
+    (entry-refused a.lengths a.k a.table.now a.headings.now a.pool.now k.in-Err.refusal (numbers e) (cells e) e.convert_entry-entry.ensures.lengths.1
+    (subst (Says e) k.in-Err.is (says e)) _ _ (cleared-as e.convert_entry-entry.ensures.lengths.0 e.convert_entry-entry.ensures.lengths.1 l.clear.ensures))
 
-pub returns-in-Ends : goal.returns-in-Ends
-returns-in-Ends c =
-    let l = (goal.at.returns-in-Ends c).After-clear_cells in
-    let k = (goal.at.After-clear_cells l).In-Ends in
+pub returns-in-Ok : goal.returns-in-Ok
+returns-in-Ok c =
+    let l = (goal.at.returns-in-Ok c).After-clear_cells in
+    let k = (goal.at.After-clear_cells l).In-Ok in
     let e = taking k in
     let a = (begun e).args in
-    entry-taken a.lengths a.k a.table.now a.headings.now a.pool.now k.in-Ends.end (numbers e) (cells e) e.convert_entry-entry.ensures.lengths.0 e.convert_entry-entry.ensures.lengths.1
-    (subst (Says e) k.in-Ends.is (says e)) _ c.progress_behind.ensures _ l.clear_cells.ensures
+    entry-taken a.lengths a.k a.table.now a.headings.now a.pool.now k.in-Ok.end (numbers e) (cells e) e.convert_entry-entry.ensures.lengths.0 e.convert_entry-entry.ensures.lengths.1
+    (subst (Says e) k.in-Ok.is (says e)) _ c.progress_behind.ensures _ l.clear_cells.ensures

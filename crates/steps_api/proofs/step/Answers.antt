@@ -10,27 +10,27 @@ use borrow.Author.Rules.{sfits_of}
 use mir.Facts.{to_z-of_z}
 use mir.Syntax.{w64}
 use Rattle.steps_api.proofs.step.Goals as goal
-use Rattle.steps_api.proofs.step.Goals.{After-read-held, After-step-next, After-write_progress, In-Is}
+use Rattle.steps_api.proofs.step.Goals.{After-read-held, After-step-next, After-write_progress, In-Some}
 
 pub write_progress-requires : goal.write_progress-requires
 write_progress-requires c =
-    let k = (goal.at.write_progress-requires c).In-Is in
-    let r = (goal.at.In-Is k).After-read-held in
-    walk-eight r.args.state.now _ (sym r.read-held.ensures ∙ ap held_as k.in-Is.is)
+    let k = (goal.at.write_progress-requires c).In-Some in
+    let r = (goal.at.In-Some k).After-read-held in
+    walk-eight r.args.state.now _ (sym r.read-held.ensures ∙ ap held_as k.in-Some.is)
 
-pub returns-in-Is : goal.returns-in-Is
-returns-in-Is c =
-    let w = (goal.at.returns-in-Is c).After-write_progress in
+pub returns-in-Some : goal.returns-in-Some
+returns-in-Some c =
+    let w = (goal.at.returns-in-Some c).After-write_progress in
     let d = (goal.at.After-write_progress w).After-step-next in
-    let k = (goal.at.After-step-next d).In-Is in
-    let r = (goal.at.In-Is k).After-read-held in
+    let k = (goal.at.After-step-next d).In-Some in
+    let r = (goal.at.In-Some k).After-read-held in
     let a = r.args in
     told-step a.headings.now a.pool.now a.state.now a.table.now d.step-next.result _ _ _ _ (to_z-of_z {w = w64} (sfits_of c.code.type_inv) ∙ c.code.ensures)
-    k.in-Is.walk (sym (ap held_as k.in-Is.is) ∙ r.read-held.ensures) d.step-next.ensures w.write_progress.ensures
+    k.in-Some.walk (sym (ap held_as k.in-Some.is) ∙ r.read-held.ensures) d.step-next.ensures w.write_progress.ensures
 
-pub returns-in-Nothing : goal.returns-in-Nothing
-returns-in-Nothing c =
-    let r = (goal.at.returns-in-Nothing c).After-read-held in
+pub returns-in-None : goal.returns-in-None
+returns-in-None c =
+    let r = (goal.at.returns-in-None c).After-read-held in
     let a = r.args in
     told-nothing a.headings.now a.pool.now a.state.now _
-    (ap (λ (x : Option W.Walk). called_in x a.state.now a.table.now a.headings.now a.pool.now) (sym (ap held_as c.in-Nothing.is) ∙ r.read-held.ensures))
+    (ap (λ (x : Option W.Walk). called_in x a.state.now a.table.now a.headings.now a.pool.now) (sym (ap held_as c.in-None.is) ∙ r.read-held.ensures))

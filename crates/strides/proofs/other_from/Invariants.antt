@@ -1,13 +1,10 @@
 -- `strides::other_from` meets its contract: the loop is the search among the cells from `start` on.
 -- Assumes nothing.
-use Prim.Native.Nat.{◌-◌, ◌≤◌}
-use lib.ListN.{length, drop}
+use Prim.Native.Nat.{◌-◌}
+use lib.ListN.{drop}
 use Rattle.cursors.proofs.Search.{Searched}
 use Rattle.strides.specs.Changes.{passable}
 use Rattle.strides.proofs.other_from.Given as goal
 
 abbrev pub invariant-loop-i : goal.invariant-loop-i
-invariant-loop-i l = (l.start ≤ l.i) × (l.i ≤ length l.cells) × Searched (passable l.z) (drop l.start l.cells) (l.i - l.start)
-
-abbrev pub decreases-loop-i : goal.decreases-loop-i
-decreases-loop-i l = length l.cells - l.i
+invariant-loop-i l = Searched (passable l.z) (drop l.start l.cells) (l.i - l.start)

@@ -8,26 +8,26 @@ use Rattle.codes.proofs.Counts.{count_fits, count-back}
 use Rattle.sheet_text.proofs.Whole.{taken-fit}
 use Rattle.table_api.specs.Codes.{sheet_code}
 use Rattle.table_api.proofs.sheet.Goals as goal
-use Rattle.table_api.proofs.sheet.Goals.{After-sheet-written, In-Bytes}
+use Rattle.table_api.proofs.sheet.Goals.{After-sheet-written, In-Some}
 
-abbrev writing : In-Bytes → After-sheet-written
-writing k = (goal.at.In-Bytes k).After-sheet-written
+abbrev writing : In-Some → After-sheet-written
+writing k = (goal.at.In-Some k).After-sheet-written
 
 -- the count is below half of the numbers of 64 bits
-small : (k : In-Bytes) → k.in-Bytes.n < 2 ^ 63
+small : (k : In-Some) → k.in-Some.n < 2 ^ 63
 small k =
     let w = writing k in
-    omega (arith, taken-fit w.sheet-written.ensures k.in-Bytes.is, w.well_formed, w.type_inv)
+    omega (arith, taken-fit w.sheet-written.ensures k.in-Some.is, w.well_formed, w.type_inv)
 
 pub overflow_cast-result : goal.overflow_cast-result
-overflow_cast-result c = count_fits c.in-Bytes.n (small c)
+overflow_cast-result c = count_fits c.in-Some.n (small c)
 
-pub returns-in-Bytes : goal.returns-in-Bytes
-returns-in-Bytes c =
+pub returns-in-Some : goal.returns-in-Some
+returns-in-Some c =
     let w = (writing c).sheet-written in
-    (w.result, count-back c.in-Bytes.n (small c) ∙ ap sheet_code (sym c.in-Bytes.is), w.ensures)
+    (w.result, count-back c.in-Some.n (small c) ∙ ap sheet_code (sym c.in-Some.is), w.ensures)
 
-pub returns-in-TooShort : goal.returns-in-TooShort
-returns-in-TooShort c =
+pub returns-in-None : goal.returns-in-None
+returns-in-None c =
     let w = c.sheet-written in
-    (w.result, ap sheet_code (sym c.in-TooShort.is), w.ensures)
+    (w.result, ap sheet_code (sym c.in-None.is), w.ensures)

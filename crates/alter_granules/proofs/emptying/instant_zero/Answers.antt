@@ -63,7 +63,7 @@ returns c =
     let d = (goal.at.returns c).After-instant_of-found in
     let s = (goal.at.After-instant_of-found d).Start in
     let v = valid s.args.period s.args.distance s.args.cells.now s.requires.sound in
-    let e = instant_of-labelled (row s) v (pos 0) c.in-At.t (sym (found-is d) ∙ ap found c.in-At.is) in
-    let n = zero-near s.args.period s.args.distance s.args.cells.now s.requires.sound c.in-At.t e in
-    let f : SFits w64 c.in-At.t = n.0 ∴ n.1 ∴ simp ints (omega arith) in
+    let e = instant_of-labelled (row s) v (pos 0) c.in-Some.t (sym (found-is d) ∙ ap found c.in-Some.is) in
+    let n = zero-near s.args.period s.args.distance s.args.cells.now s.requires.sound c.in-Some.t e in
+    let f : SFits w64 c.in-Some.t = n.0 ∴ n.1 ∴ simp ints (omega arith) in
     record { label = simp plain e; near = simp plain n }

@@ -81,7 +81,7 @@ loop-n-init s = passed_start s.args.by (a-row s) (b-row s) (known s) (up (common
 place : (l : At-loop-n) → Within (2 ^ 54) (at (b-row (goal.at.At-loop-n l).Start) l.loop-n.c)
 place l =
     let s = (goal.at.At-loop-n l).Start in
-    passed-place s.args.by (a-row s) (b-row s) (known s) (up (common s)) (count s) s.args.start l.loop-n.c (to_z w64 l.loop-n.n-bits) l.loop-n.invariant
+    passed-place s.args.by (a-row s) (b-row s) (known s) (up (common s)) (count s) s.args.start l.loop-n.c (to_z w64 l.loop-n._n-bits) l.loop-n.invariant
     (passable s).near (passable s).high
 
 wider : {t : ℤ} → Within (2 ^ 54) t → Within (2 ^ 58) t
@@ -115,8 +115,8 @@ next d =
     let e = d.following-next.ensures in
     record { begins = e.begins; of = e.of; behind = e.near.0; near = reach (at (b-row s) l.loop-n.c) e.near.1 n.period-is }
 
-more : (c : In-loop-n) → to_z w64 c.loop-n.n-bits <ℤ count (goal.at.In-loop-n c).Start
-more c = (test-lt (to_z w64 c.loop-n.n-bits) (count (goal.at.In-loop-n c).Start)).0 c.loop-n-test.true
+more : (c : In-loop-n) → to_z w64 c.loop-n._n-bits <ℤ count (goal.at.In-loop-n c).Start
+more c = (test-lt (to_z w64 c.loop-n._n-bits) (count (goal.at.In-loop-n c).Start)).0 c.loop-n-test.true
 
 small : (d : After-following-next) → Small d.loop-n.c (there d)
 small d =
@@ -124,7 +124,7 @@ small d =
     let s = (goal.at.At-loop-n l).Start in
     passed-small (to_z w64 (of_z w64 s.args.a_period)) (to_z w64 (of_z w64 s.args.a_distance)) s.args.a_cells.now
     (to_z w64 (of_z w64 s.args.b_period)) (to_z w64 (of_z w64 s.args.b_distance)) s.args.b_cells.now
-    (a-sound s) (b-sound s) s.args.by (up (common s)) (count s) s.args.start l.loop-n.c (there d) (to_z w64 l.loop-n.n-bits) l.loop-n.invariant (next d) (place l)
+    (a-sound s) (b-sound s) s.args.by (up (common s)) (count s) s.args.start l.loop-n.c (there d) (to_z w64 l.loop-n._n-bits) l.loop-n.invariant (next d) (place l)
 
 -- how many fine granules the granule at hand has
 abbrev size : After-following-next → ℤ
@@ -181,7 +181,7 @@ returns-then-is_short c =
     let l = (goal.at.After-following-next d).At-loop-n in
     let s = (goal.at.At-loop-n l).Start in
     let e =
-    passed-short s.args.by (a-row s) (b-row s) (known s) (up (common s)) (count s) s.args.start l.loop-n.c (to_z w64 l.loop-n.n-bits) l.loop-n.invariant
+    passed-short s.args.by (a-row s) (b-row s) (known s) (up (common s)) (count s) s.args.start l.loop-n.c (to_z w64 l.loop-n._n-bits) l.loop-n.invariant
     (more (goal.at.After-following-next d).In-loop-n) (there d) (next d) (sym (tested (goal.at.returns-then-is_short c).After-is_short) ∙ c.if-is_short.true) in
     let p = s.ranges.a_period in
     let n = s.ranges.a_distance in
@@ -195,19 +195,16 @@ returns-then-is_short c =
 abbrev at-loop : Else-is_short → At-loop-n
 at-loop c = (goal.at.Else-is_short c).At-loop-n
 
-pub overflow_add-n : goal.overflow_add-n
-overflow_add-n c =
+n-next : (c : Else-is_short) → to_z w64 (of_z w64 (to_z w64 (at-loop c).loop-n._n-bits +ℤ pos 1)) ≡ to_z w64 (at-loop c).loop-n._n-bits +ℤ pos 1
+n-next c =
     let l = at-loop c in
-    l.loop-n.invariant.low ∴ l.loop-n.invariant.high ∴ (passable (goal.at.At-loop-n l).Start).high ∴ simp ints (omega arith)
-
-n-next : (c : Else-is_short) → to_z w64 (of_z w64 (to_z w64 (at-loop c).loop-n.n-bits +ℤ pos 1)) ≡ to_z w64 (at-loop c).loop-n.n-bits +ℤ pos 1
-n-next c = to_z-of_z (overflow_add-n c)
+    to_z-of_z {w = w64} (l.loop-n.invariant.low ∴ l.loop-n.invariant.high ∴ (passable (goal.at.At-loop-n l).Start).high ∴ simp ints (omega arith))
 
 pub loop-n-smaller : goal.loop-n-smaller
 loop-n-smaller c =
     let d = behind (goal.at.loop-n-smaller c).After-struct_told-in-loop-n-2-1 in
     let l = at-loop c in
-    up-less (count (goal.at.At-loop-n l).Start -ℤ to_z w64 (of_z w64 (to_z w64 l.loop-n.n-bits +ℤ pos 1))) (count (goal.at.At-loop-n l).Start -ℤ to_z w64 l.loop-n.n-bits)
+    up-less (count (goal.at.At-loop-n l).Start -ℤ to_z w64 (of_z w64 (to_z w64 l.loop-n._n-bits +ℤ pos 1))) (count (goal.at.At-loop-n l).Start -ℤ to_z w64 l.loop-n._n-bits)
     (n-next c ∴ simp ints (omega arith)) (more (goal.at.After-following-next d).In-loop-n ∴ simp ints (omega arith))
 
 pub loop-n-preserved : goal.loop-n-preserved
@@ -217,7 +214,7 @@ loop-n-preserved c =
     let s = (goal.at.At-loop-n l).Start in
     let n = numbers (to_z w64 (of_z w64 s.args.b_period)) (to_z w64 (of_z w64 s.args.b_distance)) s.args.b_cells.now (b-sound s) in
     rw (n-next c)
-    (passed-next s.args.by (a-row s) (b-row s) (known s) (up (common s)) (count s) s.args.start l.loop-n.c (to_z w64 l.loop-n.n-bits) l.loop-n.invariant
+    (passed-next s.args.by (a-row s) (b-row s) (known s) (up (common s)) (count s) s.args.start l.loop-n.c (to_z w64 l.loop-n._n-bits) l.loop-n.invariant
     (more (goal.at.After-following-next d).In-loop-n) (there d) (next d) (n.high ∴ simp ints (omega arith)) (sym (tested (goal.at.loop-n-preserved c).After-is_short) ∙ c.if-is_short.false))
 
 pub returns : goal.returns
@@ -225,8 +222,8 @@ returns c =
     let l = (goal.at.returns c).At-loop-n in
     let s = (goal.at.At-loop-n l).Start in
     let e =
-    passed-end s.args.by (a-row s) (b-row s) (known s) (up (common s)) (count s) s.args.start l.loop-n.c (to_z w64 l.loop-n.n-bits) l.loop-n.invariant
-    ((test-not-lt (to_z w64 l.loop-n.n-bits) (count s)).0 c.loop-n-test.false) in
+    passed-end s.args.by (a-row s) (b-row s) (known s) (up (common s)) (count s) s.args.start l.loop-n.c (to_z w64 l.loop-n._n-bits) l.loop-n.invariant
+    ((test-not-lt (to_z w64 l.loop-n._n-bits) (count s)).0 c.loop-n-test.false) in
     let p = s.ranges.a_period in
     let n = s.ranges.a_distance in
     let q = s.ranges.b_period in

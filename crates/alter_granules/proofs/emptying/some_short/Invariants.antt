@@ -8,7 +8,7 @@ use Rattle.alter_granules.proofs.emptying.some_short.Given as goal
 
 abbrev pub invariant-loop-n : goal.invariant-loop-n
 invariant-loop-n l =
-    Passed l.by (given l.a_period l.a_distance l.a_cells) (given l.b_period l.b_distance l.b_cells) (up l.common) l.count l.initial.c l.c l.n
+    Passed l.by (given l.a_period l.a_distance l.a_cells) (given l.b_period l.b_distance l.b_cells) (up l.common) l.count l.initial.c l.c l._n
 
 abbrev pub decreases-loop-n : goal.decreases-loop-n
-decreases-loop-n l = up (l.count -ℤ l.n)
+decreases-loop-n l = up (l.count -ℤ l._n)

@@ -1,9 +1,8 @@
 -- `batches::instants::answer_all` meets its contract. The loop's invariant: the front of each list has the answers to the
 -- first i instants.
 use mathlib.Core.Path.{◌≡◌}
-use Prim.Native.Nat.{◌≤◌, ◌-◌}
 use lib.IntN.{ℤ}
-use lib.ListN.{length, take}
+use lib.ListN.{take}
 use Rattle.calendar.specs.Meaning.{Row}
 use Rattle.calendar.specs.Questions.{given, up_from_instant}
 use Rattle.questions_api.specs.Codes.{placed_code, placed_label, placed_place}
@@ -22,10 +21,6 @@ place r t = placed_place (up_from_instant r t)
 abbrev pub invariant-loop-i : goal.invariant-loop-i
 invariant-loop-i l =
     let r = given l.period l.distance l.cells in
-    (l.i ≤ length l.ts) ×
     (l.answers ≡ front (code r) (take l.i l.ts) l.initial.answers) ×
     (l.labels ≡ front (label r) (take l.i l.ts) l.initial.labels) ×
     (l.places ≡ front (place r) (take l.i l.ts) l.initial.places)
-
-abbrev pub decreases-loop-i : goal.decreases-loop-i
-decreases-loop-i l = length l.ts - l.i

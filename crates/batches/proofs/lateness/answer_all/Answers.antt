@@ -1,10 +1,9 @@
 -- `batches::lateness::answer_all` meets its contract. The loop's invariant: the front of the list has the answers to the
 -- first i slots.
 use borrow.Author.Rules.{sfits_of}
-use mathlib.Core.Path.{◌≡◌, refl, ◌∙◌, ap}
-use native.Mathlib.Omega.{arith}
+use mathlib.Core.Path.{◌≡◌, ◌∙◌, ap}
 use lib.IntN.{ℤ, pos}
-use lib.ListN.{length, get_or}
+use lib.ListN.{get_or}
 use mir.Syntax.{w64}
 use mir.Val.{to_z, of_z}
 use mir.Facts.{to_z-of_z}
@@ -13,7 +12,7 @@ use Rattle.calendar.specs.Meaning.{Row}
 use Rattle.calendar.specs.Questions.{given}
 use Rattle.questions.specs.Answers.{late_reply, may_be_late}
 use Rattle.questions_api.specs.Codes.{late_code}
-use Rattle.batches.proofs.Fronts.{front-more, front-all, front-whole}
+use Rattle.batches.proofs.Fronts.{front-more, front-all}
 use Rattle.batches.proofs.lateness.answer_all.Invariants.{code}
 use Rattle.batches.proofs.lateness.answer_all.Goals as goal
 use Rattle.batches.proofs.lateness.answer_all.Goals.{After-asked-late, At-loop-i, Start}
@@ -27,18 +26,6 @@ late s = to_z w64 (of_z w64 s.args.d)
 abbrev codes : Start → ℤ → ℤ
 codes s = code (row s) (late s) s.args.allowance
 
--- the list has the length that it had
-whole : (c : At-loop-i) → length c.loop-i.answers ≡ length c.args.answers.now
-whole c =
-    let s = (goal.at.At-loop-i c).Start in
-    front-whole (codes s) s.args.zs.now _ c.loop-i.i s.requires c.loop-i.invariant.1
-
-pub loop-i-init : goal.loop-i-init
-loop-i-init c = (omega arith, refl)
-
-pub asked-late-requires : goal.asked-late-requires
-asked-late-requires c = c.sound-sound.ensures
-
 replied : (c : After-asked-late) → let a = (goal.at.After-asked-late c).At-loop-i in let s = (goal.at.At-loop-i a).Start in
     late_reply c.asked-late.result ≡ may_be_late (row s) (get_or s.args.zs.now a.loop-i.i (pos 0)) (late s) s.args.allowance
 replied c =
@@ -46,21 +33,13 @@ replied c =
     c.asked-late.ensures
     ∙ ap (λ (z : ℤ). may_be_late (row s) z (late s) s.args.allowance) (to_z-of_z {w = w64} (sfits_of c.asked-arg-1.given))
 
-pub bounds-answers-i : goal.bounds-answers-i
-bounds-answers-i c =
-    let a = (goal.at.bounds-answers-i c).At-loop-i in
-    omega (arith, whole a, a.requires, c.loop-i-test.true)
-
 pub loop-i-preserved : goal.loop-i-preserved
 loop-i-preserved c =
     let a = (goal.at.loop-i-preserved c).At-loop-i in
     let s = (goal.at.At-loop-i a).Start in
     let here = c.loop-i-test.true in
     let k = to_z-of_z {w = w64} (sfits_of c.of_late.type_inv) ∙ c.of_late.ensures ∙ ap late_code (replied (goal.at.loop-i-preserved c).After-asked-late) in
-    (omega arith, front-more (codes s) s.args.zs.now _ a.loop-i.i here s.requires k a.loop-i.invariant.1)
-
-pub shape_of-answers : goal.shape_of-answers
-shape_of-answers c = whole (goal.at.shape_of-answers c).At-loop-i
+    front-more (codes s) s.args.zs.now _ a.loop-i.i here s.requires k a.loop-i.invariant
 
 pub returns : goal.returns
 returns c =
@@ -68,5 +47,5 @@ returns c =
     let p = s.ranges.period in
     let n = s.ranges.distance in
     let d = s.ranges.d in
-    let x = front-all (codes s) s.args.zs.now _ c.loop-i.i c.loop-i-test.false c.loop-i.invariant.1 in
+    let x = front-all (codes s) s.args.zs.now _ c.loop-i.i c.loop-i-test.false c.loop-i.invariant in
     simp plain at x

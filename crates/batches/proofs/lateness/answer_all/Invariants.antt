@@ -1,9 +1,8 @@
 -- `batches::lateness::answer_all` meets its contract. The loop's invariant: the front of the list has the answers to the
 -- first i slots.
 use mathlib.Core.Path.{◌≡◌}
-use Prim.Native.Nat.{◌≤◌, ◌-◌}
 use lib.IntN.{ℤ}
-use lib.ListN.{length, take}
+use lib.ListN.{take}
 use Rattle.calendar.specs.Meaning.{Row}
 use Rattle.calendar.specs.Questions.{given}
 use Rattle.floats.specs.declared.Allowance.{Allowance}
@@ -18,7 +17,4 @@ code r d a z = late_code (may_be_late r z d a)
 abbrev pub invariant-loop-i : goal.invariant-loop-i
 invariant-loop-i l =
     let r = given l.period l.distance l.cells in
-    (l.i ≤ length l.zs) × (l.answers ≡ front (code r l.d l.allowance) (take l.i l.zs) l.initial.answers)
-
-abbrev pub decreases-loop-i : goal.decreases-loop-i
-decreases-loop-i l = length l.zs - l.i
+    l.answers ≡ front (code r l.d l.allowance) (take l.i l.zs) l.initial.answers

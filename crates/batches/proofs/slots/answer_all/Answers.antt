@@ -1,10 +1,9 @@
 -- `batches::slots::answer_all` meets its contract. The loop's invariant: the front of each list has the answers to the
 -- first i slots.
 use borrow.Author.Rules.{sfits_of}
-use mathlib.Core.Path.{◌≡◌, refl, ◌∙◌, ap}
-use native.Mathlib.Omega.{arith}
+use mathlib.Core.Path.{◌≡◌, ◌∙◌, ap}
 use lib.IntN.{pos}
-use lib.ListN.{length, get_or}
+use lib.ListN.{get_or}
 use mir.Syntax.{w64}
 use mir.Val.{to_z, of_z}
 use mir.Facts.{to_z-of_z}
@@ -13,7 +12,7 @@ use Rattle.calendar.specs.Meaning.{Row}
 use Rattle.calendar.specs.Questions.{given, up_from_granule}
 use Rattle.questions.specs.Answers.{up_reply}
 use Rattle.questions_api.specs.Codes.{up_code, up_label}
-use Rattle.batches.proofs.Fronts.{front-more, front-all, front-whole}
+use Rattle.batches.proofs.Fronts.{front-more, front-all}
 use Rattle.batches.proofs.slots.answer_all.Invariants.{code, label}
 use Rattle.batches.proofs.slots.answer_all.Goals as goal
 use Rattle.batches.proofs.slots.answer_all.Goals.{After-asked-up, At-loop-i, Start}
@@ -24,39 +23,11 @@ g-row s = given (to_z w64 (of_z w64 s.args.g_period)) (to_z w64 (of_z w64 s.args
 abbrev h-row : Start → Row
 h-row s = given (to_z w64 (of_z w64 s.args.h_period)) (to_z w64 (of_z w64 s.args.h_distance)) s.args.h_cells.now
 
--- the lists have the lengths that they had
-whole : (c : At-loop-i) → let s = (goal.at.At-loop-i c).Start in
-    (length c.loop-i.answers ≡ length s.args.answers.now) × (length c.loop-i.labels ≡ length s.args.labels.now)
-whole c =
-    let s = (goal.at.At-loop-i c).Start in
-    let g = g-row s in
-    let h = h-row s in
-    let zs = s.args.zs.now in
-    let i = c.loop-i.i in
-    let v = c.loop-i.invariant in
-    (front-whole (code g h) zs _ i s.requires.zs_in_bounds v.1, front-whole (label g h) zs _ i s.requires.zs_in_bounds_2 v.2)
-
-pub loop-i-init : goal.loop-i-init
-loop-i-init c = (omega arith, refl, refl)
-
-pub asked-up-requires : goal.asked-up-requires
-asked-up-requires c = c.both_sound-sound.ensures
-
 replied : (c : After-asked-up) → let a = (goal.at.After-asked-up c).At-loop-i in let s = (goal.at.At-loop-i a).Start in
     up_reply c.asked-up.result ≡ up_from_granule (g-row s) (h-row s) (get_or s.args.zs.now a.loop-i.i (pos 0))
 replied c =
     let s = (goal.at.After-asked-up c).Start in
     c.asked-up.ensures ∙ ap (up_from_granule (g-row s) (h-row s)) (to_z-of_z {w = w64} (sfits_of c.asked-arg-1.given))
-
-pub bounds-labels-i : goal.bounds-labels-i
-bounds-labels-i c =
-    let a = (goal.at.bounds-labels-i c).At-loop-i in
-    omega (arith, (whole a).1, a.requires.zs_in_bounds_2, c.loop-i-test.true)
-
-pub bounds-answers-i : goal.bounds-answers-i
-bounds-answers-i c =
-    let a = (goal.at.bounds-answers-i c).At-loop-i in
-    omega (arith, (whole a).0, a.requires.zs_in_bounds, c.loop-i-test.true)
 
 pub loop-i-preserved : goal.loop-i-preserved
 loop-i-preserved c =
@@ -69,17 +40,11 @@ loop-i-preserved c =
     let v = a.loop-i.invariant in
     let here = c.loop-i-test.true in
     let e = replied (goal.at.loop-i-preserved c).After-asked-up in
-    let k = c.of_up.ensures in (
-      omega arith,
-      front-more (code g h) zs _ i here s.requires.zs_in_bounds (to_z-of_z {w = w64} (sfits_of c.of_up.type_inv) ∙ k.code ∙ ap up_code e) v.1,
-      front-more (label g h) zs _ i here s.requires.zs_in_bounds_2 (k.label ∙ ap up_label e) v.2,
+    let k = c.of_up.ensures in
+    let f = to_z-of_z {w = w64} (sfits_of c.of_up.type_inv) in (
+      front-more (code g h) zs _ i here s.requires.zs_in_bounds (f ∙ k.code ∙ ap up_code e) v.0,
+      front-more (label g h) zs _ i here s.requires.zs_in_bounds_2 (k.label ∙ ap up_label e) v.1,
     )
-
-pub shape_of-answers : goal.shape_of-answers
-shape_of-answers c = (whole (goal.at.shape_of-answers c).At-loop-i).0
-
-pub shape_of-labels : goal.shape_of-labels
-shape_of-labels c = (whole (goal.at.shape_of-labels c).At-loop-i).1
 
 pub returns : goal.returns
 returns c =
@@ -92,6 +57,6 @@ returns c =
     let e = c.loop-i-test.false in
     let i = c.loop-i.i in
     let zs = s.args.zs.now in
-    let x = front-all (code (g-row s) (h-row s)) zs _ i e v.1 in
-    let y = front-all (label (g-row s) (h-row s)) zs _ i e v.2 in
+    let x = front-all (code (g-row s) (h-row s)) zs _ i e v.0 in
+    let y = front-all (label (g-row s) (h-row s)) zs _ i e v.1 in
     record { answers = simp plain at x; labels = simp plain at y }

@@ -1,9 +1,8 @@
 -- `batches::slots::answer_all` meets its contract. The loop's invariant: the front of each list has the answers to the
 -- first i slots.
 use mathlib.Core.Path.{◌≡◌}
-use Prim.Native.Nat.{◌≤◌, ◌-◌}
 use lib.IntN.{ℤ}
-use lib.ListN.{length, take}
+use lib.ListN.{take}
 use Rattle.calendar.specs.Meaning.{Row}
 use Rattle.calendar.specs.Questions.{given, up_from_granule}
 use Rattle.questions_api.specs.Codes.{up_code, up_label}
@@ -20,8 +19,5 @@ abbrev pub invariant-loop-i : goal.invariant-loop-i
 invariant-loop-i l =
     let g = given l.g_period l.g_distance l.g_cells in
     let h = given l.h_period l.h_distance l.h_cells in
-    (l.i ≤ length l.zs) × (l.answers ≡ front (code g h) (take l.i l.zs) l.initial.answers) × (l.labels ≡ front (label g h) (take l.i l.zs) l.initial.labels)
-
-abbrev pub decreases-loop-i : goal.decreases-loop-i
-decreases-loop-i l =
-    length l.zs - l.i
+    (l.answers ≡ front (code g h) (take l.i l.zs) l.initial.answers) ×
+    (l.labels ≡ front (label g h) (take l.i l.zs) l.initial.labels)

@@ -1,5 +1,6 @@
 -- `checking::entry::check_named` meets its contract: the checks of the operation come first, and then its claimed row is weighed.
 -- Assumes nothing.
+use Rattle.std.proofs.lemmas.Result.{err_from_is_err_and}
 use mathlib.Core.Path.{◌≡◌, sym, ◌∙◌, ap, subst}
 use Prim.Native.Nat.{◌-◌, ◌^◌, ◌<◌}
 use native.Mathlib.Omega.{arith}
@@ -11,7 +12,6 @@ use Rattle.integers.proofs.Linear.{ints}
 use Rattle.integers.proofs.Machine.{plain}
 use Rattle.calendar.specs.Meaning.{Row}
 use Rattle.calendar.specs.Operation.{Operation}
-use Rattle.calendar.specs.Refusals.{number_of}
 use Rattle.calendar.specs.Reply.Reply.{answer}
 use Rattle.calendar.specs.Outcome.{converted, at_rows}
 use Rattle.kinds.specs.declared.Operand.{Operand}
@@ -30,7 +30,7 @@ use Rattle.verdicts.proofs.LeftBy.{left_by}
 use Rattle.checking.proofs.Right.{claim-stands}
 use Rattle.checking.proofs.Judging as J
 use Rattle.checking.proofs.entry.check_named.Goals as goal
-use Rattle.checking.proofs.entry.check_named.Goals.{After-check_in-checked, After-claim_of-claim, After-operand_at-r, After-operand_before-b, In-Passed, Start}
+use Rattle.checking.proofs.entry.check_named.Goals.{After-check_in, After-claim_of-claim, After-operand_at-r, After-operand_before-b, In_ok-extent, Start}
 
 pub operand_before-a-requires : goal.operand_before-a-requires
 operand_before-a-requires c = omega (arith, c.requires.has-heading)
@@ -55,8 +55,8 @@ entered c =
 pub overflow_sub-room : goal.overflow_sub-room
 overflow_sub-room c = omega (arith, (start c).requires.rows.2.fits)
 
-pub check_in-checked-requires : goal.check_in-checked-requires
-check_in-checked-requires c =
+pub check_in-requires : goal.check_in-requires
+check_in-requires c =
     let s = start c in
     let e = entered c in
     let f = s.requires.rows.2.fits in
@@ -71,44 +71,45 @@ check_in-checked-requires c =
     }
 
 -- what they come to
-checks : (c : After-check_in-checked) → let s = start (goal.at.After-check_in-checked c).After-operand_before-b in let a = s.args in
-    checked_reply c.check_in-checked.result
+checks : (c : After-check_in) → let s = start (goal.at.After-check_in c).After-operand_before-b in let a = s.args in
+    checked_reply c.check_in.result
     ≡ admission (over a.named.kind a.pool.now c.operand_before-a.result c.operand_before-b.result) (length a.pool.now - a.used)
 checks c =
-    let s = start (goal.at.After-check_in-checked c).After-operand_before-b in
+    let s = start (goal.at.After-check_in c).After-operand_before-b in
     let u : length s.args.pool.now - s.args.used < 2 ^ 63 = omega (arith, s.requires.at-most) in
-    simp plain at c.check_in-checked.ensures
+    simp plain at c.check_in.ensures
 
 -- a refusal of theirs is that of the operation
-pub returns-in-Refused : goal.returns-in-Refused
-returns-in-Refused c =
-    let t = (goal.at.returns-in-Refused c).After-check_in-checked in
-    let b = (goal.at.After-check_in-checked t).After-operand_before-b in
+pub returns-in_err-extent : goal.returns-in_err-extent
+returns-in_err-extent c =
+    let t = (goal.at.returns-in_err-extent c).After-check_in in
+    let b = (goal.at.After-check_in t).After-operand_before-b in
     let s = start b in
     let a = s.args in
-    let refused = refused-before _ _ (number_of c.in-Refused.n) (sym (checks t) ∙ ap checked_reply c.in-Refused.is) in
-    λ l o many behind names.
+    let refused = refused-before _ _ _ (sym (checks t) ∙ ap checked_reply c.in_err-extent.was) in
+    let p = err_from_is_err_and c.from_residual.result c.from_residual.ensures.1 in rw (p.1, p.2)
+    (λ l o many behind names.
     let same = J.over-rows l a.k a.headings.now a.pool.now a.used many behind s.requires.has-heading s.requires.at-most a.named o names
     b.operand_before-a.result b.operand_before-b.result b.operand_before-a.ensures b.operand_before-b.ensures in
-    ap (λ (p : Operation Row). converted p (length a.pool.now - a.used)) (sym same) ∙ refused
+    ap (λ (p : Operation Row). converted p (length a.pool.now - a.used)) (sym same) ∙ refused)
 
 -- ---- they are passed
-abbrev told : In-Passed → After-check_in-checked
-told c = (goal.at.In-Passed c).After-check_in-checked
+abbrev told : In_ok-extent → After-check_in
+told c = (goal.at.In_ok-extent c).After-check_in
 
-abbrev entering : In-Passed → After-operand_before-b
-entering c = (goal.at.In-Passed c).After-operand_before-b
+abbrev entering : In_ok-extent → After-operand_before-b
+entering c = (goal.at.In_ok-extent c).After-operand_before-b
 
-abbrev extent : In-Passed → Extent
-extent c = c.in-Passed.extent
+abbrev extent : In_ok-extent → Extent
+extent c = c.in_ok-extent.extent
 
-fits : (c : In-Passed) → ExtentFits (extent c)
+fits : (c : In_ok-extent) → ExtentFits (extent c)
 fits c = search rules
 
-admits : (c : In-Passed) → let a = (start (entering c)).args in
+admits : (c : In_ok-extent) → let a = (start (entering c)).args in
     admission (over a.named.kind a.pool.now (entering c).operand_before-a.result (entering c).operand_before-b.result) (length a.pool.now - a.used)
     ≡ answer (extent c)
-admits c = sym (checks (told c)) ∙ ap checked_reply c.in-Passed.is
+admits c = sym (checks (told c)) ∙ ap checked_reply c.in_ok-extent.was
 
 pub claim_of-claim-requires : goal.claim_of-claim-requires
 claim_of-claim-requires c =
@@ -127,12 +128,12 @@ claim_of-claim-requires c =
     }
 
 pub operand_at-r-requires : goal.operand_at-r-requires
-operand_at-r-requires c = (start (entering (goal.at.operand_at-r-requires c).In-Passed)).requires.has-heading
+operand_at-r-requires c = (start (entering (goal.at.operand_at-r-requires c).In_ok-extent)).requires.has-heading
 
 pub weigh-requires : goal.weigh-requires
 weigh-requires c =
     let m = (goal.at.weigh-requires c).After-claim_of-claim in
-    let t = (goal.at.After-claim_of-claim m).In-Passed in
+    let t = (goal.at.After-claim_of-claim m).In_ok-extent in
     let b = entering t in
     let s = start b in
     let a = s.args in
@@ -141,26 +142,26 @@ weigh-requires c =
       weighable = J.weighable p.rows.0 a.k a.headings.now a.pool.now a.used p.rows.1 p.rows.2 p.has-heading p.at-most a.named p.names.0 p.names.1
           b.operand_before-a.result b.operand_before-b.result b.operand_before-a.ensures b.operand_before-b.ensures (extent t) (admits t) (fits t);
       pos_bound = λ e.
-          let stood = claim-stands a.headings.now a.pool.now a.k a.used p.has-heading (m.claim_of-claim.ensures.test.0 e).stands m.claim_of-claim.result.end (m.claim_of-claim.ensures.ends e) in
+          let claim = m.claim_of-claim.ensures in
+          let stood = claim-stands a.headings.now a.pool.now a.k a.used p.has-heading (claim.test.0 e).stands _ e claim.ends in
           subst (λ (r : Operand). (pos 0 ≤ℤ r.period) × Stands a.pool.now r) (sym c.operand_at-r.ensures) (simp ints (omega arith), stood);
     }
 
-pub returns-in-Passed : goal.returns-in-Passed
-returns-in-Passed c =
-    let r = (goal.at.returns-in-Passed c).After-operand_at-r in
+pub returns : goal.returns
+returns c =
+    let r = (goal.at.returns c).After-operand_at-r in
     let m = (goal.at.After-operand_at-r r).After-claim_of-claim in
-    let t = (goal.at.After-claim_of-claim m).In-Passed in
+    let t = (goal.at.After-claim_of-claim m).In_ok-extent in
     let b = entering t in
     let s = start b in
     let a = s.args in
     let p = s.requires in
-    let ok = m.claim_of-claim.result.ok in
-    let end = m.claim_of-claim.result.end in
+    let claim = m.claim_of-claim in
     let o' = over a.named.kind a.pool.now b.operand_before-a.result b.operand_before-b.result in
-    let is : c.weigh.result ≡ weighed o' (row_at a.headings.now a.pool.now a.k) ok end =
-    c.weigh.ensures ∙ ap (λ (x : Operand). weighed o' (row_in a.pool.now x) ok end) r.operand_at-r.ensures in
+    let is : c.weigh.result ≡ weighed o' (row_at a.headings.now a.pool.now a.k) claim.result =
+    c.weigh.ensures ∙ ap (λ (x : Operand). weighed o' (row_in a.pool.now x) claim.result) r.operand_at-r.ensures in
     λ l o many behind names.
     subst (Judges a.k a.used a.headings.now a.pool.now (converted (at_rows l o) (length a.pool.now - a.used))) (sym is)
     (J.judged-entry l a.k a.headings.now a.pool.now a.used many behind p.has-heading p.at-most a.named o names
     b.operand_before-a.result b.operand_before-b.result b.operand_before-a.ensures b.operand_before-b.ensures (extent t) (admits t) (fits t)
-    ok end m.claim_of-claim.ensures.test m.claim_of-claim.ensures.ends)
+    claim.result claim.ensures.test claim.ensures.ends)

@@ -12,7 +12,7 @@ fields c = search rules
 pub returns : goal.returns
 returns c =
     let f = fields (goal.at.returns c).Start in (
-      widened_is _ _ f.x c.wide.ensures,
-      widened_is _ _ f.y c.wide-2.ensures,
-      widened_is _ _ f.z c.wide-3.ensures,
+      widened_is _ _ f.x c.from.ensures,
+      widened_is _ _ f.y c.from-2.ensures,
+      widened_is _ _ f.z c.from-3.ensures,
     )

@@ -17,12 +17,12 @@ returns-in-0 c k o h = bottom-kind k _ o h (number_at _ 0 (fields (goal.at.retur
 pub returns-in-1 : goal.returns-in-1
 returns-in-1 c k o h =
     let f = fields (goal.at.returns-in-1 c).Start in
-    group-kind k _ o h _ (widened_is _ _ f.x c.wide.ensures) (number_at _ 1 f.kind refl c.in-1.in-1-own.keys2)
+    group-kind k _ o h _ (widened_is _ _ f.x c.from.ensures) (number_at _ 1 f.kind refl c.in-1.in-1-own.keys2)
 
 pub returns-in-2 : goal.returns-in-2
 returns-in-2 c k o h =
     let f = fields (goal.at.returns-in-2 c).Start in
-    shift-kind k _ o h _ (widened_is _ _ f.x c.wide-in-2.ensures) (number_at _ 2 f.kind refl c.in-2.in-2-own.keys3)
+    shift-kind k _ o h _ (widened_is _ _ f.x c.from-in-2.ensures) (number_at _ 2 f.kind refl c.in-2.in-2-own.keys3)
 
 pub returns-in-3 : goal.returns-in-3
 returns-in-3 c k o h =
@@ -62,7 +62,7 @@ returns-in_default c k o h =
     let f = fields (goal.at.returns-in_default c).Start in
     let p = passed k _ o h in
     let r = c.in_default.in_default-own.rest in
-    renumber-kind k _ o h _ (widened_is _ _ f.x c.wide-in_default.ensures)
+    renumber-kind k _ o h _ (widened_is _ _ f.x c.from-in_default.ensures)
     (last-number _ p.low p.high
     r.0.0.0.0.0.0.0.0.0.0.0.1 r.0.0.0.0.0.0.0.0.0.0.1 r.0.0.0.0.0.0.0.0.0.1 r.0.0.0.0.0.0.0.0.1
     r.0.0.0.0.0.0.0.1 r.0.0.0.0.0.0.1 r.0.0.0.0.0.1 r.0.0.0.0.1 r.0.0.0.1 r.0.0.1 r.0.1 r.1)

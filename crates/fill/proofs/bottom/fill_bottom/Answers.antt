@@ -1,5 +1,6 @@
 -- `fill::bottom::fill_bottom` meets its contract: the working row has one cell, the label of the instant 0.
 -- Assumes nothing.
+use Rattle.std.specs.Prelude.{Ok}
 use mathlib.Core.Path.{◌≡◌, refl, sym, ◌∙◌, ap}
 use mathlib.Core.Option.{some}
 use mathlib.Core.Bool.{true, false}
@@ -12,7 +13,6 @@ use Rattle.calendar.specs.Operation.Operation.{bottom}
 use Rattle.calendar.specs.Distance.{size}
 use Rattle.calendar.specs.Compute.{working}
 use Rattle.fill_shared.specs.Placed.{filled_as}
-use Rattle.fill_shared.specs.declared.Filled.TheVariants.{Labelled}
 use Rattle.fill_shared.proofs.Single.{bottom-of}
 use Rattle.fill_shared.proofs.Working.{Writes, writes-none, writes_more, writes-before, writes-labelled, writes-all}
 use Rattle.fill.proofs.bottom.fill_bottom.Goals as goal
@@ -32,7 +32,7 @@ module _ (at : ℕ) (old : List ℤ) (room : at + 1 ≤ length old) where
   writes : Writes bottom at old new true 1
   writes = writes_more bottom at old fits old false 0 (writes-none bottom at old fits) (some (pos 0)) (omega (arith, one)) (sym (bottom-of (pos 0))) refl
 
-  answer : Labelled ≡ filled_as bottom
+  answer : (Ok tt) ≡ filled_as bottom
   answer = writes-labelled bottom at old fits new true 1 writes (omega (arith, one)) refl
 
   before : take at new ≡ take at old

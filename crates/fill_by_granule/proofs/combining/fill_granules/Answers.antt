@@ -2,6 +2,8 @@
 --     Begun        before the loop: its invariant, the rows that are lent, and the cells before the first label
 --     Turning      a turn: what is decided, and what holds behind it
 -- Assumes nothing.
+use Rattle.calendar.specs.declared.Refusal.{Refusal}
+use Rattle.std.specs.Prelude.{Result, ⊤}
 use borrow.Author.Rules.{sfits_of}
 use mathlib.Core.Path.{◌≡◌, refl, sym, ◌∙◌}
 use mathlib.Core.Bool.{true, false, ◌||◌}
@@ -18,7 +20,6 @@ use Rattle.cursors.specs.Cursor.{cursor_at, Standing, Shown}
 use Rattle.kinds.specs.declared.Kind.TheVariants.{Combine}
 use Rattle.kinds.specs.Operations.{operation_of}
 use Rattle.kinds.specs.Stands.{row_in}
-use Rattle.fill_shared.specs.declared.Filled.{Filled}
 use Rattle.fill_shared.proofs.Cells.{lent_is}
 use Rattle.fill_shared.specs.Placed.{Fills}
 use Rattle.fill_shared.proofs.Filling.{Lent, Filling, lent_of, row_of, first_two, fills_two, filling-length, rows-stood, rows-kept, filling-out, filling-done}
@@ -80,7 +81,7 @@ start k =
     first_two _ _ refl s.args.a s.args.b _ _ _ _ _ k.end_of-a_end.ensures (a-is k) _ k.end_of-b_end.ensures (b-is k) s.requires.fillable s.requires.placed
 
 -- what the loop ensures, over the operands
-as-filled : (k : Base) (new : List ℤ) (r : Filled) → let s = entry k in Fills (operation_of Combine (a-row k) (b-row k)) s.args.at s.args.period (old k) new r
+as-filled : (k : Base) (new : List ℤ) (r : Result ⊤ Refusal) → let s = entry k in Fills (operation_of Combine (a-row k) (b-row k)) s.args.at s.args.period (old k) new r
     → Fills (operation_of Combine (row_in (old k) s.args.a) (row_in (old k) s.args.b)) s.args.at s.args.period (old k) new r
 as-filled k new r h =
     let s = entry k in

@@ -23,7 +23,7 @@ use Rattle.containment.specs.Sides.{Overlaps}
 use Rattle.containment.proofs.Places.{instant-is, overlaps}
 use Rattle.fill_by_granule.specs.Lying.{lies_in, lies_at}
 use Rattle.fill_by_granule.proofs.combining.lies.Goals as goal
-use Rattle.fill_by_granule.proofs.combining.lies.Goals.{After-cursor_label-outer, In-At, Start}
+use Rattle.fill_by_granule.proofs.combining.lies.Goals.{After-cursor_label-outer, In-Some, Start}
 
 abbrev a-row : Start → Row
 a-row s = given s.args.a_period s.args.a_distance s.args.a_cells.now
@@ -57,19 +57,19 @@ returns-in_default c =
 
 -- ---- there is one
 abbrev Shown : Type 0
-Shown = In-At
+Shown = In-Some
 
 abbrev start : Shown → Start
-start c = (goal.at.In-At c).Start
+start c = (goal.at.In-Some c).Start
 
 abbrev label : Shown → ℤ
-label c = c.in-At.i
+label c = c.in-Some.i
 
 label-fits : (c : Shown) → SFits w64 (label c)
 label-fits c = search rules
 
 label-some : (c : Shown) → meant (a-row (start c)) (start c).args.t ≡ some (label c)
-label-some c = label_is (goal.at.In-At c).After-cursor_label-outer ∙ ap found c.in-At.is
+label-some c = label_is (goal.at.In-Some c).After-cursor_label-outer ∙ ap found c.in-Some.is
 
 abbrev place : Shown → CursorPair
 place c = let s = start c in record { b = s.args.b; k = s.args.k; a = s.args.a; i = label c }
@@ -85,7 +85,7 @@ is-first c e = let s = start c in instant-is (b-row s) (b-valid s) s.args.b s.ar
 
 pub inside_from_first-requires : goal.inside_from_first-requires
 inside_from_first-requires c =
-    let d = (goal.at.inside_from_first-requires c).In-At in
+    let d = (goal.at.inside_from_first-requires c).In-Some in
     let s = start d in
     let p = s.ranges.a_period in
     let n = s.ranges.a_distance in
@@ -97,7 +97,7 @@ inside_from_first-requires c =
 
 pub inside_at-requires : goal.inside_at-requires
 inside_at-requires c =
-    let d = (goal.at.inside_at-requires c).In-At in
+    let d = (goal.at.inside_at-requires c).In-Some in
     let s = start d in
     let p = s.ranges.a_period in
     let n = s.ranges.a_distance in
@@ -116,7 +116,7 @@ said c r e = let s = start c in e ∙ sym (ap (lies_in (a-row s) (b-row s) s.arg
 
 pub returns-then-fresh : goal.returns-then-fresh
 returns-then-fresh c =
-    let d = (goal.at.returns-then-fresh c).In-At in
+    let d = (goal.at.returns-then-fresh c).In-Some in
     let s = start d in
     let p = s.ranges.a_period in
     let n = s.ranges.a_distance in
@@ -129,7 +129,7 @@ returns-then-fresh c =
 
 pub returns-else-fresh : goal.returns-else-fresh
 returns-else-fresh c =
-    let d = (goal.at.returns-else-fresh c).In-At in
+    let d = (goal.at.returns-else-fresh c).In-Some in
     let s = start d in
     let p = s.ranges.a_period in
     let n = s.ranges.a_distance in

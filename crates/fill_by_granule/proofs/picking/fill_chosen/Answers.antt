@@ -8,7 +8,7 @@ use Prim.Native.Nat.{ℕ, suc, ◌+◌, ◌-◌, ◌≤◌, ◌<◌, ◌^◌}
 use native.Mathlib.Omega.{arith}
 use lib.IntN.{ℤ, pos, ◌+ℤ◌}
 use lib.Signed.{le_z}
-use lib.ListN.{length, set}
+use lib.ListN.{set}
 use mir.Facts.{to_z-of_z}
 use mir.Syntax.{w32}
 use mir.Val.{SFits, to_z, of_z}
@@ -18,25 +18,23 @@ use Rattle.calendar.specs.Limits.{pool_limit, between}
 use Rattle.calendar.specs.Lists.{only}
 use Rattle.calendar.specs.Compute.{cell_of}
 use Rattle.fill_by_granule.specs.Picking.{chosen_cells, chosen_count}
-use Rattle.fill_by_granule.proofs.Spreads.{chosen-length, chosen-few}
+use Rattle.fill_by_granule.proofs.Spreads.{chosen-few}
 use Rattle.fill_by_granule.proofs.picking.fill_chosen.Invariants.{Inv}
 use Rattle.fill_by_granule.proofs.picking.fill_chosen.Goals as goal
 use Rattle.fill_by_granule.proofs.picking.fill_chosen.Goals.{At-loop-t, In-loop-t, Start}
 
 -- an instant more, which has a label or not, with the label that follows
-module _ (c lo hi : ℤ) (from to at : ℕ) (old new : List ℤ) (label : ℤ) (count t : ℕ) (v : Inv c lo hi from to at old new label count t)
-    (here : t < to) (fits : SFits w32 (c +ℤ pos t +ℤ pos 1)) (b : Bool) (k : b ≡ between lo hi (c +ℤ pos t)) where
+module _ (c lo hi : ℤ) (from at : ℕ) (old new : List ℤ) (label : ℤ) (count t : ℕ) (v : Inv c lo hi from at old new label count t)
+    (low : from ≤ t) (fits : SFits w32 (c +ℤ pos t +ℤ pos 1)) (b : Bool) (k : b ≡ between lo hi (c +ℤ pos t)) where
   more : (z : ℤ) (m : ℕ) → z ≡ cell_of (only (c +ℤ pos t) b) → m ≡ cond b (1 + count) count
-      → Inv c lo hi from to at old (set new (at + t) z) (to_z w32 (of_z w32 (label +ℤ pos 1))) m (t + 1)
+      → Inv c lo hi from at old (set new (at + t) z) (to_z w32 (of_z w32 (label +ℤ pos 1))) m (t + 1)
   more z m f g =
       let e : c +ℤ pos t +ℤ pos 1 ≡ c +ℤ pos (t + 1) = simp ints (omega arith) in
       let n = t - from in
-      let q : t ≡ from + n = omega (arith, v.low) in
-      let r : suc n ≡ t + 1 - from = omega (arith, v.low) in
+      let q : t ≡ from + n = omega arith in
+      let r : suc n ≡ t + 1 - from = omega arith in
       let d : b ≡ between lo hi (c +ℤ pos (from + n)) = k ∙ ap (λ (i : ℕ). between lo hi (c +ℤ pos i)) q in
       record {
-        low = omega (arith, v.low);
-        within = omega arith;
         next = ap (λ (y : ℤ). to_z w32 (of_z w32 (y +ℤ pos 1))) v.next ∙ to_z-of_z fits ∙ e;
         cells =
             ap₂ (λ (l : List ℤ) (y : ℤ). set l (at + t) y) v.cells (f ∙ ap₂ (λ (i : ℕ) (x : Bool). cell_of (only (c +ℤ pos i) x)) q d)
@@ -52,50 +50,15 @@ from-small s = let l : s.args.from ≤ pool_limit = omega (arith, s.requires.in_
 label-fits : (s : Start) → SFits w32 (s.args.first +ℤ pos s.args.from)
 label-fits s = s.requires.label.0 ∴ s.requires.labels ∴ s.requires.in_order ∴ simp ints (omega arith)
 
-pub overflow_cast-label : goal.overflow_cast-label
-overflow_cast-label c = (from-small c).0
-
-pub overflow_add-label : goal.overflow_add-label
-overflow_add-label c =
-    let f = c.ranges.first in
-    let l = (from-small c).1 in
-    simp plain (label-fits c)
-
 pub loop-t-init : goal.loop-t-init
 loop-t-init c =
     let a = c.args in
     let f = c.ranges.first in
     let z : 0 ≡ a.from - a.from = omega arith in
     record {
-      low = omega arith;
-      within = c.requires.in_order;
       next = let l = (from-small c).1 in let n = label-fits c in simp plain;
       cells = ap (λ (n : ℕ). chosen_cells (to_z w32 (of_z w32 a.first)) (to_z w32 (of_z w32 a.low)) (to_z w32 (of_z w32 a.high)) a.at a.from n a.pool.now) z;
       counted = ap (λ (n : ℕ). chosen_count (to_z w32 (of_z w32 a.first)) (to_z w32 (of_z w32 a.low)) (to_z w32 (of_z w32 a.high)) a.from n) z;
-    }
-
-abbrev At-loop : Type 0
-At-loop = At-loop-t
-
--- what is known before the instant t
-record Here (l : At-loop) : Type 0 where
-  write : l.args.at + l.loop-t.t < length l.loop-t.pool
-  small : length l.loop-t.pool ≤ pool_limit
-  few : l.loop-t.count ≤ l.loop-t.t
-
-long : (l : At-loop) → length l.loop-t.pool ≡ length l.args.pool.now
-long l = ap length l.loop-t.invariant.cells ∙ chosen-length _ _ _ _ _ (l.loop-t.t - l.args.from) _
-
-here : (c : In-loop-t) → Here (goal.at.In-loop-t c).At-loop-t
-here c =
-    let l = (goal.at.In-loop-t c).At-loop-t in
-    let p = l.requires in
-    let a = l.args in
-    let e = long l in
-    record {
-      write = omega (arith, p.room);
-      small = omega (arith, p.few);
-      few = omega (arith, l.loop-t.invariant.counted, chosen-few (to_z w32 (of_z w32 a.first)) (to_z w32 (of_z w32 a.low)) (to_z w32 (of_z w32 a.high)) a.at a.from (l.loop-t.t - a.from));
     }
 
 -- the label that follows fits
@@ -104,28 +67,17 @@ fits_after s t h =
     let f = s.ranges.first in
     simp plain (s.requires.label.0 ∴ s.requires.labels ∴ h ∴ simp ints (omega arith))
 
+-- no more instants have a label than are passed
 pub overflow_add-count : goal.overflow_add-count
-overflow_add-count c = let h = here (goal.at.overflow_add-count c).In-loop-t in omega arith
-
-pub overflow_add-cell : goal.overflow_add-cell
-overflow_add-cell c = let h = here (goal.at.overflow_add-cell c).In-loop-t in omega arith
-
-pub offset_bounds-pool-at : goal.offset_bounds-pool-at
-offset_bounds-pool-at c = let h = here (goal.at.offset_bounds-pool-at c).In-loop-t in omega arith
-
-pub bounds-pool-at : goal.bounds-pool-at
-bounds-pool-at c = let h = here (goal.at.bounds-pool-at c).In-loop-t in omega arith
+overflow_add-count c =
+    let a = c.args in
+    let few = chosen-few (to_z w32 (of_z w32 a.first)) (to_z w32 (of_z w32 a.low)) (to_z w32 (of_z w32 a.high)) a.at a.from (c.loop-t.t - a.from) in
+    omega (arith, c.loop-t.invariant.counted, c.requires.room, c.requires.few)
 
 pub overflow_add-label-in-loop-t : goal.overflow_add-label-in-loop-t
 overflow_add-label-in-loop-t c =
     let l = (goal.at.overflow_add-label-in-loop-t c).At-loop-t in
     rw l.loop-t.invariant.next (fits_after (goal.at.At-loop-t l).Start l.loop-t.t c.loop-t-test.true)
-
-pub overflow_add-t : goal.overflow_add-t
-overflow_add-t c = let h = here (goal.at.overflow_add-t c).In-loop-t in omega arith
-
-pub loop-t-smaller : goal.loop-t-smaller
-loop-t-smaller c = omega (arith, c.loop-t-test.true)
 
 pub loop-t-preserved : goal.loop-t-preserved
 loop-t-preserved c =
@@ -137,17 +89,14 @@ loop-t-preserved c =
     let lo = to_z w32 (of_z w32 a.low) in
     let hi = to_z w32 (of_z w32 a.high) in
     let r = l.loop-t.invariant.next in
-    let go = more first lo hi a.from a.to a.at a.pool.now l.loop-t.pool (to_z w32 l.loop-t.label-bits) l.loop-t.count t
-    l.loop-t.invariant i.loop-t-test.true (fits_after (goal.at.At-loop-t l).Start t i.loop-t-test.true) in
+    let go = more first lo hi a.from a.at a.pool.now l.loop-t.pool (to_z w32 l.loop-t.label-bits) l.loop-t.count t
+    l.loop-t.invariant (omega arith) (fits_after (goal.at.At-loop-t l).Start t i.loop-t-test.true) in
     ⊎_elim
     (λ w. go true (sym (ap₂ ◌&&◌ (ap (le_z lo) (sym r) ∙ w.if-low-label.true) (ap (λ (z : ℤ). le_z z hi) (sym r) ∙ w.if-label-high.true))) _ _ (w.cell-is ∙ r) (omega (arith, w.count-is)))
     (⊎_elim
     (λ w. go false (sym (ap₂ ◌&&◌ (ap (le_z lo) (sym r) ∙ w.if-low-label.true) (ap (λ (z : ℤ). le_z z hi) (sym r) ∙ w.if-label-high.false))) _ _ w.cell-is w.count-is)
     (λ w. go false (sym (ap (λ (b : Bool). b && le_z (first +ℤ pos t) hi) (ap (le_z lo) (sym r) ∙ w.if-low-label.false))) _ _ w.cell-is w.count-is))
     c.if-low-label.branch-raw
-
-pub shape_of-pool : goal.shape_of-pool
-shape_of-pool c = long (goal.at.shape_of-pool c).At-loop-t
 
 pub returns : goal.returns
 returns c =
@@ -157,7 +106,7 @@ returns c =
     let f = s.ranges.first in
     let g = s.ranges.low in
     let h = s.ranges.high in
-    let e : l.loop-t.t - a.from ≡ a.to - a.from = omega (arith, l.loop-t.invariant.within, c.loop-t-test.false) in
+    let e : l.loop-t.t - a.from ≡ a.to - a.from = omega arith in
     let v = simp plain at l.loop-t.invariant in record {
       cells = v.cells ∙ ap (λ (n : ℕ). chosen_cells a.first a.low a.high a.at a.from n a.pool.now) e;
       count = v.counted ∙ ap (λ (n : ℕ). chosen_count a.first a.low a.high a.from n) e;

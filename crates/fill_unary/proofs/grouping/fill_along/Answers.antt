@@ -1,5 +1,7 @@
 -- `fill_unary::grouping::fill_along` meets its contract: each turn of the loop finds the group of the next label, and writes the cells of the stretch that has it.
 -- Assumes nothing.
+use Rattle.calendar.specs.declared.Refusal.{Refusal}
+use Rattle.std.specs.Prelude.{Result, ⊤}
 use borrow.Author.Rules.{sfits_of}
 use borrow.Author.Tests.{not-true, not-false}
 use mathlib.Core.Path.{◌≡◌, refl, sym, ◌∙◌, ap}
@@ -23,7 +25,6 @@ use Rattle.cursors.specs.Cursor.{cursor_at, Shown}
 use Rattle.kinds.specs.declared.Kind.TheVariants.{Group}
 use Rattle.kinds.specs.Operations.{operation_of}
 use Rattle.kinds.specs.Stands.{row_in}
-use Rattle.fill_shared.specs.declared.Filled.{Filled}
 use Rattle.fill_shared.specs.Placed.{Fills}
 use Rattle.fill_shared.proofs.Cells.{lent_is}
 use Rattle.fill_shared.proofs.Points.{label_small}
@@ -69,7 +70,7 @@ a-sound : (c : Told) → sound (row_of (A c) (old c)) ≡ true
 a-sound c = (first c).lends.is-fillable.sounds.0
 
 -- what the loop ensures, over the operand
-as-filled : (c : Told) (new : List ℤ) (r : Filled) → let s = entry c in Fills (operation_of (Group (X c)) (row_of (A c) (old c)) (row_of (A c) (old c))) s.args.at s.args.period (old c) new r
+as-filled : (c : Told) (new : List ℤ) (r : Result ⊤ Refusal) → let s = entry c in Fills (operation_of (Group (X c)) (row_of (A c) (old c)) (row_of (A c) (old c))) s.args.at s.args.period (old c) new r
     → Fills (operation_of (Group s.args.x) (row_in (old c) s.args.a) (row_in (old c) s.args.b)) s.args.at s.args.period (old c) new r
 as-filled c new r h =
     let s = entry c in

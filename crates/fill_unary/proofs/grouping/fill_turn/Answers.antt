@@ -27,7 +27,7 @@ use Rattle.cursors.proofs.Cells.{label-empty, label-full, get_d_any}
 use Rattle.fill_shared.specs.declared.Known.{Known}
 use Rattle.fill_shared.proofs.Working.{range-fits}
 use Rattle.fill_unary.specs.Grouped.{Knows, label_at, group_at, Grouped}
-use Rattle.fill_unary.proofs.Turned.{grouped-length, grouped-below, grouped-none, grouped-more}
+use Rattle.fill_unary.proofs.Turned.{grouped-below, grouped-none, grouped-more}
 use Rattle.fill_unary.proofs.grouping.fill_turn.Goals as goal
 use Rattle.fill_unary.proofs.grouping.fill_turn.Goals.{Start, At-loop-i, In-loop-i, Then-cell, Joined-not-covers, Joined-cell, After-group_of-known, After-in_range, Then-not-in_range, then-not-covers+else-not-in_range, else-not-covers, then-cell, else-cell}
 
@@ -41,7 +41,7 @@ pub loop-i-init : goal.loop-i-init
 loop-i-init c =
     let s = (goal.at.loop-i-init c).Start in
     let x = s.ranges.x in
-    (grouped-none (factor s) (lift s) s.args.start s.args.to s.args.pool.now, simp plain s.requires.knows, omega arith)
+    (grouped-none (factor s) (lift s) s.args.start s.args.to s.args.pool.now, simp plain s.requires.knows)
 
 -- what is ensured
 abbrev Ends : Start → ℤ → ℤ → List ℤ → Known → Type 0
@@ -56,26 +56,19 @@ ends s pool r h =
     (subst (λ (z : ℤ). Ends s (factor s) z pool r) (to_z-of_z s.ranges.rise) h)
 
 -- ---- a cell
-abbrev In-loop : Type 0
-In-loop = In-loop-i
-
-abbrev base : In-loop → Start
+abbrev base : In-loop-i → Start
 base c = (goal.at.In-loop-i c).Start
 
-kept-length : (l : At-loop-i) → length l.loop-i.pool ≡ length l.args.pool.now
-kept-length l = let s = (goal.at.At-loop-i l).Start in ap length l.loop-i.invariant.0.is-new ∙ grouped-length (factor s) (lift s) s.args.start s.args.to s.args.pool.now l.loop-i.i
-
-index : (c : In-loop) → (c.args.start + c.loop-i.i < c.args.to) × (c.args.to + c.loop-i.i < length c.loop-i.pool) × (length c.loop-i.pool ≤ pool_limit)
+index : (c : In-loop-i) → (c.args.start + c.loop-i.i < c.args.to) × (c.args.to + c.loop-i.i < length c.loop-i.pool) × (length c.loop-i.pool ≤ pool_limit)
 index c =
     let p = c.requires.count_bound in
-    let e = kept-length (goal.at.In-loop-i c).At-loop-i in
     (omega (arith, p.0, c.loop-i-test.true), omega (arith, p.1, c.loop-i-test.true), omega (arith, p.2))
 
-abbrev cell : In-loop → ℤ
+abbrev cell : In-loop-i → ℤ
 cell c = get_or c.loop-i.pool (c.args.start + c.loop-i.i) (pos 0)
 
 -- the cell is as it was
-cell-is : (c : In-loop) → get_or c.args.pool.now (c.args.start + c.loop-i.i) empty ≡ cell c
+cell-is : (c : In-loop-i) → get_or c.args.pool.now (c.args.start + c.loop-i.i) empty ≡ cell c
 cell-is c =
     let s = base c in
     let k = s.args.start + c.loop-i.i in
@@ -85,33 +78,33 @@ cell-is c =
     ∙ get_d_any c.loop-i.pool k empty (pos 0) (omega (arith, h.0, h.1))
 
 -- its label and its group
-abbrev label-at : In-loop → Option ℤ
+abbrev label-at : In-loop-i → Option ℤ
 label-at c = let s = base c in label_at (lift s) s.args.start s.args.pool.now c.loop-i.i
 
-abbrev group_at_lem : In-loop → Option ℤ
+abbrev group_at_lem : In-loop-i → Option ℤ
 group_at_lem c = let s = base c in group_at (factor s) (lift s) s.args.start s.args.pool.now c.loop-i.i
 
-label_is : (c : In-loop) → label-at c ≡ raise (lift (base c)) (label_of (cell c))
+label_is : (c : In-loop-i) → label-at c ≡ raise (lift (base c)) (label_of (cell c))
 label_is c = ap (λ (z : ℤ). raise (lift (base c)) (label_of z)) (cell-is c)
 
 -- a label j
-abbrev label : In-loop → ℤ
+abbrev label : In-loop-i → ℤ
 label c = cell c +ℤ lift (base c)
 
 -- as the machine has it
-abbrev J : In-loop → ℤ
+abbrev J : In-loop-i → ℤ
 J c = to_z w64 (of_z w64 (to_z w64 (of_z w64 (to_z w32 (of_z w32 (cell c)))) +ℤ lift (base c)))
 
 -- what is known of the label
-abbrev Numbered : In-loop → Known → Type 0
+abbrev Numbered : In-loop-i → Known → Type 0
 Numbered i k = (k.number ≡ ceil_div (label i) (up (factor (base i)))) × Knows (factor (base i)) k
 
 -- the label that is written
-abbrev Labels : (c : In-loop) → ℤ → Known → Type 0
+abbrev Labels : (c : In-loop-i) → ℤ → Known → Type 0
 Labels c z k = (l : Option ℤ) × (l ≡ group_at_lem c) × (if_label l in_range ≡ true) × (z ≡ cell_of l) × Knows (factor (base c)) k
 
 -- a cell that has a label
-module _ (i : In-loop) (f : SFits w32 (cell i)) (full : of_z w32 (cell i) ≡ 2147483648 → ⊥) where
+module _ (i : In-loop-i) (f : SFits w32 (cell i)) (full : of_z w32 (cell i) ≡ 2147483648 → ⊥) where
   label-some : label-at i ≡ some (label i)
   label-some = label_is i ∙ ap (raise (lift (base i))) (label-full (cell i) (λ e. full (ap (of_z w32) e)))
 
@@ -146,15 +139,15 @@ module _ (i : In-loop) (f : SFits w32 (cell i)) (full : of_z w32 (cell i) ≡ 21
   of-label k h = (some k.number, is-group _ h.0, h.1.within, refl, h.1)
 
 -- a cell that has none
-of_none : (i : In-loop) → SFits w32 (cell i) → of_z w32 (cell i) ≡ 2147483648 → Labels i empty i.loop-i.known
+of_none : (i : In-loop-i) → SFits w32 (cell i) → of_z w32 (cell i) ≡ 2147483648 → Labels i empty i.loop-i.known
 of_none i f q =
     let e = (test-eq w32 (cell i) empty f (sfits_lit tt)).0 q in
     (none, sym (ap (map _) (label_is i ∙ ap (raise _) (label-empty (cell i) e))), refl, refl, i.loop-i.invariant.1)
 
-labels-as : (c : In-loop) {z z' : ℤ} {k k' : Known} → z' ≡ z → k' ≡ k → Labels c z k → Labels c z' k'
+labels-as : (c : In-loop-i) {z z' : ℤ} {k k' : Known} → z' ≡ z → k' ≡ k → Labels c z k → Labels c z' k'
 labels-as c p q h = (h.0, h.1, h.2, p ∙ h.3, rw q h.4)
 
-abbrev of-cell : Then-cell → In-loop
+abbrev of-cell : Then-cell → In-loop-i
 of-cell c = (goal.at.Then-cell c).In-loop-i
 
 cell-fits : (c : Then-cell) → SFits w32 (cell (of-cell c))
@@ -233,12 +226,12 @@ pub loop-i-preserved : goal.loop-i-preserved
 loop-i-preserved c =
     let i = (goal.at.loop-i-preserved c).In-loop-i in
     let h = labelled c in
-    (grouped-more _ _ _ _ _ _ _ i.loop-i.invariant.0 h.0 _ h.1 h.2 h.3, h.4, omega (arith, i.loop-i-test.true))
+    (grouped-more _ _ _ _ _ _ _ i.loop-i.invariant.0 h.0 _ h.1 h.2 h.3, h.4)
 
 -- ---- the end
 pub returns-clause-inside : goal.returns-clause-inside
 returns-clause-inside c =
     let l = (goal.at.returns-clause-inside c).At-loop-i in
     let s = (goal.at.At-loop-i l).Start in
-    let e : l.loop-i.i ≡ s.args.count = omega (arith, c.loop-i-test.false, l.loop-i.invariant.2) in
+    let e : l.loop-i.i ≡ s.args.count = omega arith in
     (ends s l.loop-i.pool l.loop-i.known ((λ u. (l.loop-i.invariant.1, subst (λ (n : ℕ). Grouped (factor s) (lift s) s.args.start s.args.to s.args.pool.now l.loop-i.pool n) e l.loop-i.invariant.0)), λ u. absurd (true≢false l.loop-i.invariant.1.within u))).0

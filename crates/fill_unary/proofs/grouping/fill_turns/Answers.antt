@@ -1,5 +1,7 @@
 -- `fill_unary::grouping::fill_turns` meets its contract: each turn of the loop writes the cells of one turn of the operand, and the working row is whole turns.
 -- Assumes nothing.
+use Rattle.calendar.specs.declared.Refusal.{Refusal}
+use Rattle.std.specs.Prelude.{Result, ⊤}
 use borrow.Author.Rules.{sfits_of}
 use borrow.Author.Tests.{not-true, not-false}
 use mathlib.Core.Path.{◌≡◌, refl, sym, ◌∙◌, ap, subst}
@@ -20,7 +22,6 @@ use Rattle.cursors.specs.Found.{Near}
 use Rattle.kinds.specs.declared.Kind.TheVariants.{Group}
 use Rattle.kinds.specs.Operations.{operation_of}
 use Rattle.kinds.specs.Stands.{row_in}
-use Rattle.fill_shared.specs.declared.Filled.{Filled}
 use Rattle.fill_shared.proofs.Cells.{lent_is}
 use Rattle.fill_shared.proofs.Points.{is-near}
 use Rattle.fill_shared.specs.Placed.{Fills}
@@ -64,7 +65,7 @@ first c =
     (first_one _ _ (ap Group (to_z-of_z s.ranges.x)) s.args.a s.args.b _ _ _ _ _ c.end_of-end.ensures (a-is c) refl s.requires.fillable s.requires.placed)
 
 -- what the loop ensures, over the operand
-as-filled : (c : Begun) (new : List ℤ) (r : Filled) → let s = entry c in
+as-filled : (c : Begun) (new : List ℤ) (r : Result ⊤ Refusal) → let s = entry c in
     Fills (operation_of (Group (to_z w64 (of_z w64 s.args.x))) (row_of (lent c) s.args.pool.now) (row_of (lent c) s.args.pool.now)) s.args.at s.args.period s.args.pool.now new r
     → Fills (operation_of (Group s.args.x) (row_in s.args.pool.now s.args.a) (row_in s.args.pool.now s.args.b)) s.args.at s.args.period s.args.pool.now new r
 as-filled c new r h =

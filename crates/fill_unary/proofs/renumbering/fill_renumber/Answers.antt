@@ -1,5 +1,7 @@
 -- `fill_unary::renumbering::fill_renumber` meets its contract: each turn of the loop writes the cell of one instant.
 -- Assumes nothing.
+use Rattle.calendar.specs.declared.Refusal.{Refusal}
+use Rattle.std.specs.Prelude.{Result, ⊤}
 use borrow.Author.Rules.{rules, sfits_of}
 use mathlib.Core.Path.{◌≡◌, refl, sym, ◌∙◌, ap}
 use mathlib.Core.Option.{some}
@@ -19,7 +21,6 @@ use Rattle.cursors.proofs.Cells.{label-empty, label-full}
 use Rattle.kinds.specs.declared.Kind.TheVariants.{Renumber}
 use Rattle.kinds.specs.Operations.{operation_of}
 use Rattle.kinds.specs.Stands.{row_in}
-use Rattle.fill_shared.specs.declared.Filled.{Filled}
 use Rattle.fill_shared.specs.Placed.{Fills}
 use Rattle.fill_shared.proofs.Cells.{lent_is}
 use Rattle.fill_shared.proofs.Working.{range-fits}
@@ -57,7 +58,7 @@ first c =
     first_one _ _ (ap Renumber (to_z-of_z s.ranges.x)) s.args.a s.args.b _ _ _ _ _ c.end_of-end.ensures (a-is c) refl s.requires.fillable s.requires.placed
 
 -- what the loop ensures, over the operand
-as-filled : (c : Told) (new : List ℤ) (r : Filled) → let s = entry c in Fills (operation_of (Renumber (X c)) (row c) (row c)) s.args.at s.args.period (old c) new r
+as-filled : (c : Told) (new : List ℤ) (r : Result ⊤ Refusal) → let s = entry c in Fills (operation_of (Renumber (X c)) (row c) (row c)) s.args.at s.args.period (old c) new r
     → Fills (operation_of (Renumber s.args.x) (row_in (old c) s.args.a) (row_in (old c) s.args.b)) s.args.at s.args.period (old c) new r
 as-filled c new r h =
     let s = entry c in

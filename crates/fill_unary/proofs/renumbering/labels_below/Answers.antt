@@ -12,8 +12,7 @@ use lib.ListN.{length, get_or}
 use mir.Facts.{to_z_pos}
 use mir.Syntax.{w32, w64}
 use mir.Val.{SFits, of_z, to_z}
-use Rattle.integers.proofs.Linear.{ints, ◌∴◌}
-use Rattle.integers.proofs.Machine.{plain, test-lt, test-le, test-not-lt, test-not-le, widened}
+use Rattle.integers.proofs.Machine.{plain, test-lt, test-le, test-not-lt, test-not-le}
 use Rattle.calendar.specs.Meaning.{empty}
 use Rattle.calendar.specs.Compute.{count}
 use Rattle.calendar.specs.Questions.{given}
@@ -21,7 +20,7 @@ use Rattle.cursors.proofs.Cells.{get_d_any}
 use Rattle.fill_unary.proofs.Passed.{Over, Passed, passed_none, passed-all, passed-enough, passed-more, passed-same}
 use Rattle.fill_unary.proofs.renumbering.labels_below.Invariants.{Inv}
 use Rattle.fill_unary.proofs.renumbering.labels_below.Goals as goal
-use Rattle.fill_unary.proofs.renumbering.labels_below.Goals.{After-z-1, At-loop-i, Else-z-x, Start as Start-place, then-z-label, else-z-label}
+use Rattle.fill_unary.proofs.renumbering.labels_below.Goals.{After-z-1, At-loop-cell, Else-z-x, Start as Start-place, then-z-label, else-z-label}
 
 abbrev Start : Type 0
 Start = Start-place
@@ -50,43 +49,37 @@ over c =
     let d = c.ranges.a_distance in
     simp plain (record { sound = c.requires.sound; is_last = c.requires.last_value; low = c.requires.last_lt_x.0; high = c.requires.last_lt_x.1 })
 
-pub loop-i-init : goal.loop-i-init
-loop-i-init c = record { within = omega arith; few = omega arith; passed = passed_none (over c) }
+pub loop-cell-init : goal.loop-cell-init
+loop-cell-init c = record { few = omega arith; passed = passed_none (over c) }
 
 -- the cell that a turn reads
 abbrev cell : After-z-1 → ℤ
-cell c = get_or (cells (goal.at.After-z-1 c).Start) c.loop-i.i (pos 0)
+cell c = get_or (cells (goal.at.After-z-1 c).Start) c.loop-cell.cell-index (pos 0)
 
 cell-fits : (c : After-z-1) → SFits w32 (cell c)
 cell-fits c = sfits_of c.z-1.given
 
-pub overflow_cast-z : goal.overflow_cast-z
-overflow_cast-z c = let f = cell-fits c in simp plain (widened f)
-
-here : (c : After-z-1) → c.loop-i.i < length (cells (goal.at.After-z-1 c).Start)
+here : (c : After-z-1) → c.loop-cell.cell-index < length (cells (goal.at.After-z-1 c).Start)
 here c = omega arith
 
 -- as the machine has it
 abbrev wide : After-z-1 → ℤ
 wide c = to_z w64 (of_z w64 (to_z w32 (of_z w32 (cell c))))
 
-wide_is : (c : After-z-1) → wide c ≡ get_or (cells (goal.at.After-z-1 c).Start) c.loop-i.i empty
+wide_is : (c : After-z-1) → wide c ≡ get_or (cells (goal.at.After-z-1 c).Start) c.loop-cell.cell-index empty
 wide_is c =
     let f = cell-fits c in
-    simp plain (get_d_any (cells (goal.at.After-z-1 c).Start) c.loop-i.i (pos 0) empty (here c))
+    simp plain (get_d_any (cells (goal.at.After-z-1 c).Start) c.loop-cell.cell-index (pos 0) empty (here c))
 
-few-labels : (c : At-loop-i) → c.loop-i.labels < 2 ^ 63
+few-labels : (c : At-loop-cell) → c.loop-cell.labels < 2 ^ 63
 few-labels c = omega arith
 
-pub overflow_cast-result : goal.overflow_cast-result
-overflow_cast-result c = few-labels (goal.at.overflow_cast-result c).At-loop-i ∴ simp ints (omega arith)
-
 -- what was counted, with the numbers of the contract
-counted : (c : At-loop-i) → let s = (goal.at.At-loop-i c).Start in
-    pos c.loop-i.labels ≡ pos (count (given (P s) (N s) (cells s)) (L s +ℤ pos 1) (X s -ℤ pos 1))
-    → to_z w64 c.loop-i.labels ≡ pos (count (given s.args.a_period s.args.a_distance (cells s)) (s.args.last +ℤ pos 1) (s.args.x -ℤ pos 1))
+counted : (c : At-loop-cell) → let s = (goal.at.At-loop-cell c).Start in
+    pos c.loop-cell.labels ≡ pos (count (given (P s) (N s) (cells s)) (L s +ℤ pos 1) (X s -ℤ pos 1))
+    → to_z w64 c.loop-cell.labels ≡ pos (count (given s.args.a_period s.args.a_distance (cells s)) (s.args.last +ℤ pos 1) (s.args.x -ℤ pos 1))
 counted c e =
-    let s = (goal.at.At-loop-i c).Start in
+    let s = (goal.at.At-loop-cell c).Start in
     let x = s.ranges.x in
     let l = s.ranges.last in
     let p = s.ranges.a_period in
@@ -96,52 +89,47 @@ counted c e =
 pub returns-then-z-x : goal.returns-then-z-x
 returns-then-z-x c =
     let z = (goal.at.returns-then-z-x c).After-z-1 in
-    let k = (goal.at.After-z-1 z).At-loop-i in
-    let s = (goal.at.At-loop-i k).Start in
+    let k = (goal.at.After-z-1 z).At-loop-cell in
+    let s = (goal.at.At-loop-cell k).Start in
     let h = subst (λ (y : ℤ). X s ≤ℤ y) (wide_is z) ((test-le (X s) (wide z)).0 c.if-z-x.true) in
-    counted k (passed-enough (over s) k.loop-i.invariant.passed (here z) h)
+    counted k (passed-enough (over s) k.loop-cell.invariant.passed (here z) h)
 
 -- a turn at a new label
-more : (c : Else-z-x) (label : ℤ) (labels : ℕ) → let k = (goal.at.Else-z-x c).At-loop-i in let s = (goal.at.At-loop-i k).Start in
-    lt_z (to_z w64 k.loop-i.label-bits) (wide (goal.at.Else-z-x c).After-z-1) ≡ true → label ≡ wide (goal.at.Else-z-x c).After-z-1 → labels ≡ k.loop-i.labels + 1
-    → Inv (X s) (L s) (cells s) (P s) (N s) label labels (k.loop-i.i + 1)
+more : (c : Else-z-x) (label : ℤ) (labels : ℕ) → let k = (goal.at.Else-z-x c).At-loop-cell in let s = (goal.at.At-loop-cell k).Start in
+    lt_z (to_z w64 k.loop-cell.label-bits) (wide (goal.at.Else-z-x c).After-z-1) ≡ true → label ≡ wide (goal.at.Else-z-x c).After-z-1 → labels ≡ k.loop-cell.labels + 1
+    → Inv (X s) (L s) (cells s) (P s) (N s) label labels (k.loop-cell.cell-index + 1)
 more c label labels t e n =
     let z = (goal.at.Else-z-x c).After-z-1 in
-    let k = (goal.at.After-z-1 z).At-loop-i in
-    let s = (goal.at.At-loop-i k).Start in
-    let w : label ≡ get_or (cells s) k.loop-i.i empty = e ∙ wide_is z in
-    let h = subst (λ (y : ℤ). to_z w64 k.loop-i.label-bits <ℤ y) (wide_is z) ((test-lt (to_z w64 k.loop-i.label-bits) (wide z)).0 t) in
+    let k = (goal.at.After-z-1 z).At-loop-cell in
+    let s = (goal.at.At-loop-cell k).Start in
+    let w : label ≡ get_or (cells s) k.loop-cell.cell-index empty = e ∙ wide_is z in
+    let h = subst (λ (y : ℤ). to_z w64 k.loop-cell.label-bits <ℤ y) (wide_is z) ((test-lt (to_z w64 k.loop-cell.label-bits) (wide z)).0 t) in
     let b = subst (λ (y : ℤ). y <ℤ X s) (wide_is z) ((test-not-le (X s) (wide z)).0 c.if-z-x.false) in
     record {
-      within = omega (arith, here z);
-      few = omega (arith, k.loop-i.invariant.few);
-      passed = subst₂ (λ (p : ℤ) (m : ℕ). Passed (given (P s) (N s) (cells s)) (L s) (X s) p m (k.loop-i.i + 1)) (sym w) (sym n) (passed-more (over s) k.loop-i.invariant.passed (here z) h b);
+      few = omega (arith, k.loop-cell.invariant.few);
+      passed = subst₂ (λ (p : ℤ) (m : ℕ). Passed (given (P s) (N s) (cells s)) (L s) (X s) p m (k.loop-cell.cell-index + 1)) (sym w) (sym n) (passed-more (over s) k.loop-cell.invariant.passed (here z) h b);
     }
 
 -- a turn at the same label, or at none
-same : (c : Else-z-x) (label : ℤ) (labels : ℕ) → let k = (goal.at.Else-z-x c).At-loop-i in let s = (goal.at.At-loop-i k).Start in
-    lt_z (to_z w64 k.loop-i.label-bits) (wide (goal.at.Else-z-x c).After-z-1) ≡ false → label ≡ to_z w64 k.loop-i.label-bits → labels ≡ k.loop-i.labels
-    → Inv (X s) (L s) (cells s) (P s) (N s) label labels (k.loop-i.i + 1)
+same : (c : Else-z-x) (label : ℤ) (labels : ℕ) → let k = (goal.at.Else-z-x c).At-loop-cell in let s = (goal.at.At-loop-cell k).Start in
+    lt_z (to_z w64 k.loop-cell.label-bits) (wide (goal.at.Else-z-x c).After-z-1) ≡ false → label ≡ to_z w64 k.loop-cell.label-bits → labels ≡ k.loop-cell.labels
+    → Inv (X s) (L s) (cells s) (P s) (N s) label labels (k.loop-cell.cell-index + 1)
 same c label labels t e n =
     let z = (goal.at.Else-z-x c).After-z-1 in
-    let k = (goal.at.After-z-1 z).At-loop-i in
-    let s = (goal.at.At-loop-i k).Start in
-    let h = subst (λ (y : ℤ). y ≤ℤ to_z w64 k.loop-i.label-bits) (wide_is z) ((test-not-lt (to_z w64 k.loop-i.label-bits) (wide z)).0 t) in
+    let k = (goal.at.After-z-1 z).At-loop-cell in
+    let s = (goal.at.At-loop-cell k).Start in
+    let h = subst (λ (y : ℤ). y ≤ℤ to_z w64 k.loop-cell.label-bits) (wide_is z) ((test-not-lt (to_z w64 k.loop-cell.label-bits) (wide z)).0 t) in
     record {
-      within = omega (arith, here z);
-      few = omega (arith, k.loop-i.invariant.few);
-      passed = subst₂ (λ (b : ℤ) (m : ℕ). Passed (given (P s) (N s) (cells s)) (L s) (X s) b m (k.loop-i.i + 1)) (sym e) (sym n) (passed-same (over s) k.loop-i.invariant.passed (here z) h);
+      few = omega (arith, k.loop-cell.invariant.few);
+      passed = subst₂ (λ (b : ℤ) (m : ℕ). Passed (given (P s) (N s) (cells s)) (L s) (X s) b m (k.loop-cell.cell-index + 1)) (sym e) (sym n) (passed-same (over s) k.loop-cell.invariant.passed (here z) h);
     }
 
-pub loop-i-preserved : goal.loop-i-preserved
-loop-i-preserved c =
-    let e = (goal.at.loop-i-preserved c).Else-z-x in
+pub loop-cell-preserved : goal.loop-cell-preserved
+loop-cell-preserved c =
+    let e = (goal.at.loop-cell-preserved c).Else-z-x in
     elim c.if-z-label.branch [ then-z-label w ↦ more e _ _ w.if-z-label.true w.label-is w.labels-is | else-z-label w ↦ same e _ _ w.if-z-label.false w.label-is w.labels-is ]
-
-pub overflow_cast-result-2 : goal.overflow_cast-result-2
-overflow_cast-result-2 c = few-labels (goal.at.overflow_cast-result-2 c).At-loop-i ∴ simp ints (omega arith)
 
 pub returns : goal.returns
 returns c =
-    let k = (goal.at.returns c).At-loop-i in
-    counted k (passed-all (over (goal.at.At-loop-i k).Start) k.loop-i.invariant.passed (omega arith))
+    let k = (goal.at.returns c).At-loop-cell in
+    counted k (passed-all (over (goal.at.At-loop-cell k).Start) k.loop-cell.invariant.passed (omega arith))

@@ -1,5 +1,7 @@
 -- `fill_unary::shifting::fill_shift` meets its contract: each turn of the loop writes the cell of one instant.
 -- Assumes nothing.
+use Rattle.calendar.specs.declared.Refusal.{Refusal}
+use Rattle.std.specs.Prelude.{Result, ⊤}
 use borrow.Author.Rules.{sfits_of}
 use borrow.Author.Tests.{not-true, not-false}
 use mathlib.Core.Path.{◌≡◌, refl, sym, ◌∙◌, ap}
@@ -18,17 +20,13 @@ use Rattle.calendar.specs.Meaning.{label_of, raise}
 use Rattle.calendar.specs.Operation.Unary.{shift}
 use Rattle.calendar.specs.Operation.Operation.{unary}
 use Rattle.kinds.specs.Stands.{row_in}
-use Rattle.fill_shared.specs.declared.Filled.{Filled}
 use Rattle.fill_shared.specs.Placed.{Fills}
-use Rattle.fill_unary.proofs.Shifts.{Shifts, Shifted, Counts, shift-period, shifted_none, shifted-length, shifted-index, shifted-bound, shifted-more, shifted-out, shifted-done}
+use Rattle.fill_unary.proofs.Shifts.{Shifts, Shifted, Counts, shift-period, shifted_none, shifted-index, shifted-bound, shifted-more, shifted-out, shifted-done}
 use Rattle.fill_unary.proofs.shifting.fill_shift.Goals as goal
 use Rattle.fill_unary.proofs.shifting.fill_shift.Goals.{After-raised-arg-1, After-raised-cell, At-loop-t, In-loop-t, Joined-is_outside, Start as Start-place, then-is_outside, else-is_outside}
 
 abbrev Start : Type 0
 Start = Start-place
-
-abbrev At-loop : Type 0
-At-loop = At-loop-t
 
 -- the number as the machine has it
 abbrev X : Start → ℤ
@@ -51,21 +49,12 @@ pub loop-t-init : goal.loop-t-init
 loop-t-init c = λ a e s. shifted_none s
 
 -- ---- a turn
-turn : (l : At-loop) → let s = (goal.at.At-loop-t l).Start in Shifted (unary (shift (X s)) (row_in s.args.pool.now s.args.a)) s.args.at s.args.pool.now l.loop-t.pool l.loop-t.outside l.loop-t.t
+turn : (l : At-loop-t) → let s = (goal.at.At-loop-t l).Start in Shifted (unary (shift (X s)) (row_in s.args.pool.now s.args.a)) s.args.at s.args.pool.now l.loop-t.pool l.loop-t.outside l.loop-t.t
 turn l = l.loop-t.invariant l.args.a refl (shifts (goal.at.At-loop-t l).Start)
 
 index : (c : In-loop-t) → let l = (goal.at.In-loop-t c).At-loop-t in let s = (goal.at.At-loop-t l).Start in
     (s.args.a.start + l.loop-t.t < length l.loop-t.pool) × ((s.args.at + l.loop-t.t < length l.loop-t.pool) × (length l.loop-t.pool ≤ pool_limit))
 index c = shifted-index (shifts (goal.at.In-loop-t c).Start) (turn (goal.at.In-loop-t c).At-loop-t) c.loop-t-test.true
-
-pub overflow_add-start : goal.overflow_add-start
-overflow_add-start c = let h = index c in omega arith
-
-pub offset_bounds-pool-start : goal.offset_bounds-pool-start
-offset_bounds-pool-start c = let h = index c in omega arith
-
-pub slice_copy_out-raised : goal.slice_copy_out-raised
-slice_copy_out-raised c = (index c).0
 
 -- the cell that a turn reads
 abbrev cell : After-raised-arg-1 → ℤ
@@ -83,26 +72,11 @@ raised-cell-requires c =
     let l = (goal.at.raised-cell-requires c).At-loop-t in
     record { within = rw (to_z-of_z (cell-fits c)) (shifted-bound (shifts (goal.at.At-loop-t l).Start) (turn l) c.loop-t-test.true); within_2 = rw (by-is (goal.at.At-loop-t l).Start) (shifts (goal.at.At-loop-t l).Start).bound }
 
-pub overflow_add-cell : goal.overflow_add-cell
-overflow_add-cell c = let h = index (goal.at.overflow_add-cell c).In-loop-t in omega arith
-
-pub offset_bounds-pool-at : goal.offset_bounds-pool-at
-offset_bounds-pool-at c = let h = index (goal.at.offset_bounds-pool-at c).In-loop-t in omega arith
-
-pub bounds-pool-at : goal.bounds-pool-at
-bounds-pool-at c = (index (goal.at.bounds-pool-at c).In-loop-t).1.0
-
 pub overflow_add-outside : goal.overflow_add-outside
 overflow_add-outside c =
     let i = (goal.at.overflow_add-outside c).In-loop-t in
     let h = index i in
     omega (arith, (turn (goal.at.In-loop-t i).At-loop-t).counted)
-
-pub overflow_add-t : goal.overflow_add-t
-overflow_add-t c = let h = index (goal.at.overflow_add-t c).In-loop-t in omega arith
-
-pub loop-t-smaller : goal.loop-t-smaller
-loop-t-smaller c = omega (arith, c.loop-t-test.true)
 
 -- the cell that a turn writes
 abbrev written : After-raised-cell → ℤ
@@ -129,12 +103,8 @@ loop-t-preserved c = λ a e s.
     let read = ap (λ (n : ℕ). raise (X (goal.at.At-loop-t l).Start) (label_of (get_or l.loop-t.pool (n + l.loop-t.t) (pos 0)))) (sym e) in
     shifted-more s (l.loop-t.invariant a e s) i.loop-t-test.true (written z) _ (written_is z ∙ read) (counts c)
 
--- ---- the end
-pub shape_of-pool-then-outside-gt0 : goal.shape_of-pool-then-outside-gt0
-shape_of-pool-then-outside-gt0 c = let l = (goal.at.shape_of-pool-then-outside-gt0 c).At-loop-t in shifted-length (shifts (goal.at.At-loop-t l).Start) (turn l)
-
 -- what the loop ensures, with the number of the contract
-as-filled : (s : Start) (new : List ℤ) (r : Filled) → Fills (unary (shift (X s)) (row_in s.args.pool.now s.args.a)) s.args.at s.args.period s.args.pool.now new r
+as-filled : (s : Start) (new : List ℤ) (r : Result ⊤ Refusal) → Fills (unary (shift (X s)) (row_in s.args.pool.now s.args.a)) s.args.at s.args.period s.args.pool.now new r
     → Fills (unary (shift s.args.x) (row_in s.args.pool.now s.args.a)) s.args.at s.args.period s.args.pool.now new r
 as-filled s new r h = rw (to_z-of_z s.ranges.x) at h
 
@@ -142,9 +112,6 @@ pub returns-then-outside-gt0 : goal.returns-then-outside-gt0
 returns-then-outside-gt0 c =
     let l = (goal.at.returns-then-outside-gt0 c).At-loop-t in
     as-filled (goal.at.At-loop-t l).Start _ _ (shifted-out (shifts (goal.at.At-loop-t l).Start) (turn l) c.loop-t-test.false c.if-outside-gt0.true)
-
-pub shape_of-pool-else-outside-gt0 : goal.shape_of-pool-else-outside-gt0
-shape_of-pool-else-outside-gt0 c = let l = (goal.at.shape_of-pool-else-outside-gt0 c).At-loop-t in shifted-length (shifts (goal.at.At-loop-t l).Start) (turn l)
 
 pub returns-else-outside-gt0 : goal.returns-else-outside-gt0
 returns-else-outside-gt0 c =

@@ -1,7 +1,6 @@
 -- `fill_unary::shifting::fill_shift` meets its contract: each turn of the loop writes the cell of one instant.
 -- Assumes nothing.
 use mathlib.Core.Path.{◌≡◌}
-use Prim.Native.Nat.{◌-◌}
 use Rattle.calendar.specs.Operation.Unary.{shift}
 use Rattle.calendar.specs.Operation.Operation.{unary}
 use Rattle.kinds.specs.declared.Operand.{Operand}
@@ -13,6 +12,3 @@ use Rattle.fill_unary.proofs.shifting.fill_shift.Given as goal
 abbrev pub invariant-loop-t : goal.invariant-loop-t
 invariant-loop-t l =
     (a : Operand) → a.start ≡ l.start → Shifts l.x a l.at l.period l.initial.pool → Shifted (unary (shift l.x) (row_in l.initial.pool a)) l.at l.initial.pool l.pool l.outside l.t
-
-abbrev pub decreases-loop-t : goal.decreases-loop-t
-decreases-loop-t l = l.period - l.t

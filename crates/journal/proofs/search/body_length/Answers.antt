@@ -1,84 +1,61 @@
 -- `journal::search::body_length` meets its contract, case by case.
 -- Assumes nothing.
-use mathlib.Core.Path.{sym}
+use mathlib.Core.Path.{◌∙◌}
 use native.Mathlib.Omega.{arith}
-use Rattle.journal.proofs.Trailers.{Marked, points-stand, body-zero, body-any}
+use Rattle.journal.proofs.Trailers.{Points, points-stand, body-none, body-of, from_place}
 use Rattle.journal.proofs.search.body_length.Goals as goal
-use Rattle.journal.proofs.search.body_length.Goals.{After-shared_slice_known-1, After-shared_slice_known-2-1, After-shared_slice_known-6-1, After-shared_slice_known-7-1, Else-a-ge128, Else-window-lt6, Else-window-p, Else-window-p-2}
+use Rattle.journal.proofs.search.body_length.Goals.{then-a-ge128-via-then-a-ge128, then-a-ge128-via-else-a-ge128+then-b-ge128, then-a-ge128-via-else-a-ge128+else-b-ge128+then-c-ge128, then-a-ge128-via-else-a-ge128+else-b-ge128+else-c-ge128+then-d-ge128, then-n-eq0-via-then-n-eq0, then-n-eq0-via-else-n-eq0+then-n-gt4096, then-n-eq0-via-else-n-eq0+else-n-gt4096+then-base-saturating_sub}
 
-pub returns-then-window-lt6 : goal.returns-then-window-lt6
-returns-then-window-lt6 c =
-    let a = c.args in
-    sym (body-zero a.window.now a.base a.p (λ f. let s = points-stand _ _ _ f in omega arith))
+pub returns-in_err-get : goal.returns-in_err-get
+returns-in_err-get c =
+    c.from_residual.ensures ∙ body-none _ _ _ (λ f. let s = points-stand _ _ _ f in omega (arith, c.in_err-get.ensures.lookup))
 
-pub returns-then-window-p : goal.returns-then-window-p
-returns-then-window-p c =
-    let a = c.args in
-    sym (body-zero a.window.now a.base a.p (λ f. let s = points-stand _ _ _ f in omega arith))
+pub returns-in_default : goal.returns-in_default
+returns-in_default c =
+    body-none _ _ _ (λ f. let s = points-stand _ _ _ f in omega (arith, c.in_ok-get.ensures.lookup.0.3, c.in_default.len_below))
 
-pub returns-then-window-p-2 : goal.returns-then-window-p-2
-returns-then-window-p-2 c =
-    let a = c.args in
-    sym (body-zero a.window.now a.base a.p (λ f. omega arith))
+pub returns-in_default-2 : goal.returns-in_default-2
+returns-in_default-2 c =
+    let g = c.in_ok-get.ensures.lookup.0 in
+    let v = from_place _ _ _ g.2 g.3 in
+    body-none _ _ _ (λ f. omega arith)
 
-pub returns-then-window-p-3 : goal.returns-then-window-p-3
-returns-then-window-p-3 c =
-    let a = c.args in
-    sym (body-zero a.window.now a.base a.p (λ f. omega arith))
+pub returns-in_default-3 : goal.returns-in_default-3
+returns-in_default-3 c =
+    let g = c.in_ok-get.ensures.lookup.0 in
+    let v = from_place _ _ _ g.2 g.3 in
+    body-none _ _ _ (λ f. omega arith)
 
 pub returns-then-a-ge128 : goal.returns-then-a-ge128
 returns-then-a-ge128 c =
-    let k = (goal.at.returns-then-a-ge128 c).Else-window-lt6 in
-    let a = k.args in
-    sym (body-zero a.window.now a.base a.p (λ f. omega arith))
+    let g = c.in_ok-get.ensures.lookup.0 in
+    let v = from_place _ _ _ g.2 g.3 in
+    elim c.then-a-ge128.branch [
+      | then-a-ge128-via-then-a-ge128 w ↦ body-none _ _ _ (λ f. omega arith)
+      | then-a-ge128-via-else-a-ge128+then-b-ge128 w ↦ body-none _ _ _ (λ f. omega arith)
+      | then-a-ge128-via-else-a-ge128+else-b-ge128+then-c-ge128 w ↦ body-none _ _ _ (λ f. omega arith)
+      | then-a-ge128-via-else-a-ge128+else-b-ge128+else-c-ge128+then-d-ge128 w ↦ body-none _ _ _ (λ f. omega arith)
+    ]
 
-pub returns-then-b-ge128 : goal.returns-then-b-ge128
-returns-then-b-ge128 c =
-    let k = (goal.at.returns-then-b-ge128 c).Else-window-p in
-    let a = k.args in
-    sym (body-zero a.window.now a.base a.p (λ f. omega arith))
-
-pub returns-then-c-ge128 : goal.returns-then-c-ge128
-returns-then-c-ge128 c =
-    let k = (goal.at.returns-then-c-ge128 c).After-shared_slice_known-2-1 in
-    let a = k.args in
-    sym (body-zero a.window.now a.base a.p (λ f. omega arith))
-
-pub returns-then-d-ge128 : goal.returns-then-d-ge128
-returns-then-d-ge128 c =
-    let k = (goal.at.returns-then-d-ge128 c).Else-window-p-2 in
-    let a = k.args in
-    sym (body-zero a.window.now a.base a.p (λ f. omega arith))
-
-pub returns-then-n-gt4096 : goal.returns-then-n-gt4096
-returns-then-n-gt4096 c =
-    let k = (goal.at.returns-then-n-gt4096 c).After-shared_slice_known-6-1 in
-    let a = k.args in
-    sym (body-zero a.window.now a.base a.p (λ f. omega arith))
-
-pub returns-then-n-p : goal.returns-then-n-p
-returns-then-n-p c =
-    let k = (goal.at.returns-then-n-p c).After-shared_slice_known-7-1 in
-    let l = (goal.at.After-shared_slice_known-7-1 k).After-shared_slice_known-1 in
-    let a = l.args in
-    let m : Marked a.window.now a.p =
-    record { start = omega arith; a = omega arith; b = omega arith; c = omega arith; d = omega arith; end = omega arith } in
-    let e = body-any a.window.now a.base a.p m (omega arith) (omega arith) in
-    omega arith
-
-pub returns-then-n-p-2 : goal.returns-then-n-p-2
-returns-then-n-p-2 c =
-    let k = (goal.at.returns-then-n-p-2 c).Else-a-ge128 in
-    let l = (goal.at.Else-a-ge128 k).Else-window-lt6 in
-    let a = l.args in
-    let m : Marked a.window.now a.p =
-    record { start = omega arith; a = omega arith; b = omega arith; c = omega arith; d = omega arith; end = omega arith } in
-    let e = body-any a.window.now a.base a.p m (omega arith) (omega arith) in
-    omega arith
+pub returns-then-n-eq0 : goal.returns-then-n-eq0
+returns-then-n-eq0 c =
+    let g = c.in_ok-get.ensures.lookup.0 in
+    let v = from_place _ _ _ g.2 g.3 in
+    elim c.then-n-eq0.branch [
+      | then-n-eq0-via-then-n-eq0 w ↦ body-none _ _ _ (λ f. omega arith)
+      | then-n-eq0-via-else-n-eq0+then-n-gt4096 w ↦ body-none _ _ _ (λ f. omega arith)
+      | then-n-eq0-via-else-n-eq0+else-n-gt4096+then-base-saturating_sub w ↦ body-none _ _ _ (λ f. omega arith)
+    ]
 
 pub returns : goal.returns
 returns c =
-    let k = (goal.at.returns c).Else-a-ge128 in
-    let l = (goal.at.Else-a-ge128 k).Else-window-lt6 in
-    let a = l.args in
-    sym (body-zero a.window.now a.base a.p (λ f. omega arith))
+    let a = c.args in
+    let g = c.in_ok-get.ensures.lookup.0 in
+    let v = from_place _ _ _ g.2 g.3 in
+    let f : Points a.window.now a.base a.p = record {
+      marked = record { start = omega arith; a = omega arith; b = omega arith; c = omega arith; d = omega arith; end = omega arith };
+      positive = omega arith;
+      short = omega arith;
+      within = omega arith;
+    } in
+    body-of _ _ _ _ (omega arith) f

@@ -1,21 +1,15 @@
 -- `journal_store::window::look` meets its contract: what the step over the window says.
 -- Assumes nothing.
-use mathlib.Core.Path.{sym, ◌∙◌}
 use Prim.Native.Nat.{◌≤◌}
 use native.Mathlib.Omega.{arith}
-use lib.ListN.{length, take}
+use lib.ListN.{length}
 use lib.Seq.{length-take-le}
 use borrow.Author.Rules.{rules}
-use Rattle.journal.proofs.Windows.{step-body, step-before, step-no-further}
+use Rattle.journal_store.proofs.Steps.{step_seen}
 use Rattle.journal_store.proofs.window.look.Goals as goal
 
-pub returns-in-Body : goal.returns-in-Body
-returns-in-Body g c =
-    let e = sym c.step_back-step.ensures ∙ c.in-Body.is in
-    let k : c.in-Ok.k ≤ c.args.n = c.in-Ok.ensures in
-    let w : c.in-Ok.k ≤ length c.fill_at.new.bytes = search rules in
-    let h : length (take c.in-Ok.k c.fill_at.new.bytes) ≤ 7 = omega (arith, length-take-le c.in-Ok.k c.fill_at.new.bytes w, k, c.requires.0) in
-    ((step-body _ _ e).1, step-no-further _ _ e h)
-
-pub returns-in-Before : goal.returns-in-Before
-returns-in-Before g c = step-before _ _ (sym c.step_back-step.ensures ∙ c.in-Before.is)
+pub returns : goal.returns
+returns g c =
+    let k : c.in_ok-k.k ≤ c.args.n = c.in_ok-k.ensures in
+    let w : c.in_ok-k.k ≤ length c.fill_at.new.bytes = search rules in
+    step_seen _ _ _ _ c.step_back.ensures (omega (arith, length-take-le c.in_ok-k.k c.fill_at.new.bytes w, k))

@@ -1,5 +1,6 @@
 -- `open_api::steps::nth` meets its contract, arm by arm: what `open_steps::nth` answers.
 -- Assumes nothing.
+use Rattle.std.specs.Prelude.{Ok}
 use borrow.Author.Rules.{rules, sfits_of}
 use mathlib.Core.Path.{◌≡◌, sym, ◌∙◌, ap}
 use mir.Facts.{to_z-of_z}
@@ -21,17 +22,17 @@ replied c =
     let g = s.ranges.n in
     simp plain at c.nth-step.ensures
 
-pub returns-in-At : goal.returns-in-At
-returns-in-At c =
-    let e = sym (ap step_reply c.in-At.is) ∙ replied (goal.at.returns-in-At c).After-nth-step in
+pub returns-in-Ok-Some : goal.returns-in-Ok-Some
+returns-in-Ok-Some c =
+    let e = sym (ap step_reply (c.in-Ok-Some.is ∙ ap Ok (rw c.in-Ok-Some.is at c.in-Ok-Some.field-0-is))) ∙ replied (goal.at.returns-in-Ok-Some c).After-nth-step in
     record { code = ap step_code e; found = to_z-of_z {w = w64} (search rules) ∙ ap step_left e }
 
-pub returns-in-Nothing : goal.returns-in-Nothing
-returns-in-Nothing c =
-    let e = sym (ap step_reply c.in-Nothing.is) ∙ replied (goal.at.returns-in-Nothing c).After-nth-step in
+pub returns-in-Ok-None : goal.returns-in-Ok-None
+returns-in-Ok-None c =
+    let e = sym (ap step_reply (c.in-Ok-None.is ∙ ap Ok (rw c.in-Ok-None.is at c.in-Ok-None.field-0-is))) ∙ replied (goal.at.returns-in-Ok-None c).After-nth-step in
     record { code = ap step_code e; found = ap step_left e }
 
-pub returns-in-Refused : goal.returns-in-Refused
-returns-in-Refused c =
-    let e = sym (ap step_reply c.in-Refused.is) ∙ replied (goal.at.returns-in-Refused c).After-nth-step in
+pub returns-in-Err : goal.returns-in-Err
+returns-in-Err c =
+    let e = sym (ap step_reply c.in-Err.is) ∙ replied (goal.at.returns-in-Err c).After-nth-step in
     record { code = to_z-of_z {w = w64} (sfits_of c.refusal_code.type_inv) ∙ c.refusal_code.ensures ∙ ap step_code e; found = ap step_left e }

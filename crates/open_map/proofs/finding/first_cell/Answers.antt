@@ -25,10 +25,10 @@ returns-in_default c =
     let f = (goal.at.returns-in_default c).After-first_from-place in
     let s = (goal.at.After-first_from-place f).Start in
     let l = s.args.words.now in
-    let none = subst (FirstFrom l 0) (nowhere _ c.in_default.not-At) (found f) in
+    let none = subst (FirstFrom l 0) (nowhere _ c.in_default.not-Some) (found f) in
     absurd (omega (arith, (known s).some, tally-none (cell l) (up s.args.period) (λ i h. none i (omega arith))))
 
 pub returns : goal.returns
 returns c =
     let f = (goal.at.returns c).After-first_from-place in
-    subst (FirstFrom f.args.words.now 0) c.in-At.is (found f)
+    subst (FirstFrom f.args.words.now 0) c.in-Some.is (found f)

@@ -1,5 +1,6 @@
 -- `open_map::finding::last_cell` meets its contract: some cell is set.
 -- Assumes nothing.
+use Rattle.std.specs.Prelude.{ℤ}
 use mathlib.Core.Path.{◌≡◌, subst}
 use Prim.Native.Nat.{ℕ}
 use native.Mathlib.Omega.{arith}
@@ -46,11 +47,11 @@ returns-in_default c =
     let s = (goal.at.After-last_below-place f).Start in
     let l = s.args.words.now in
     let n = up s.args.period in
-    let none = subst (LastBelow l n) (nowhere _ c.in_default.not-At) (found f) in
+    let none = subst (LastBelow l n) (nowhere _ c.in_default.not-Some) (found f) in
     absurd (omega (arith, (known s).some, tally-none (cell l) n (λ i h. none i (omega arith) h)))
 
 pub returns : goal.returns
 returns c =
     let f = (goal.at.returns c).After-last_below-place in
     let s = (goal.at.After-last_below-place f).Start in
-    subst (LastBelow s.args.words.now (up s.args.period)) c.in-At.is (found f)
+    subst (LastBelow s.args.words.now (up s.args.period)) c.in-Some.is (found f)

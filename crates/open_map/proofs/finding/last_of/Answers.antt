@@ -20,7 +20,7 @@ use Rattle.open_map.proofs.Given.{Given, given, turning, within}
 use Rattle.open_map.proofs.Numbers.{Placed, placed}
 use Rattle.open_map.proofs.Found.{nowhere, set_below, last-here, last_turn}
 use Rattle.open_map.proofs.finding.last_of.Goals as goal
-use Rattle.open_map.proofs.finding.last_of.Goals.{After-last_below-place, After-last_cell-last, After-turn_of-at, In-At, In_default, Start}
+use Rattle.open_map.proofs.finding.last_of.Goals.{After-last_below-place, After-last_cell-last, After-turn_of-at, In-Some, In_default, Start}
 
 known : (s : Start) → Given s.args.period s.args.words.now
 known s = given s.args.period s.args.words.now s.requires.sound
@@ -87,14 +87,14 @@ returns-in_default c =
     let i : c.composed.result ≡ s.args.period *ℤ (r.turn -ℤ pos 1) +ℤ pos d.last_cell-last.result = simp plain at c.composed.ensures in
     to_z-of_z {w = w64} (sfits_of c.composed.type_inv) ∙ i ∙ ap (λ (z : ℤ). z *ℤ (r.turn -ℤ pos 1) +ℤ pos d.last_cell-last.result) (known s).period-is
     ∙ sym (last_turn s.args.period l (known s) s.args.x r.turn r.cell d.last_cell-last.result (there a).is (there a).below
-    (subst (LastBelow l r.cell) (nowhere _ e.in_default.not-At) k.last_below-place.ensures) (simp plain at d.last_cell-last.ensures))
+    (subst (LastBelow l r.cell) (nowhere _ e.in_default.not-Some) k.last_below-place.ensures) (simp plain at d.last_cell-last.ensures))
 
 -- a cell of this turn
-found : (c : In-At) → let a = (goal.at.In-At c).After-turn_of-at in Greatest (cell a.args.words.now) a.turn_of-at.result.cell c.in-At.i
+found : (c : In-Some) → let a = (goal.at.In-Some c).After-turn_of-at in Greatest (cell a.args.words.now) a.turn_of-at.result.cell c.in-Some.i
 found c =
-    let k = (goal.at.In-At c).After-last_below-place in
+    let k = (goal.at.In-Some c).After-last_below-place in
     let a = (goal.at.After-last_below-place k).After-turn_of-at in
-    subst (LastBelow a.args.words.now a.turn_of-at.result.cell) c.in-At.is k.last_below-place.ensures
+    subst (LastBelow a.args.words.now a.turn_of-at.result.cell) c.in-Some.is k.last_below-place.ensures
 
 pub composed-requires-2 : goal.composed-requires-2
 composed-requires-2 c =
@@ -102,15 +102,15 @@ composed-requires-2 c =
     let s = (goal.at.After-turn_of-at a).Start in
     let p = s.ranges.period in
     let f = (there a).turn-fits in
-    record { turning = simp plain (turning s.args.period s.args.words.now (known s)); within = simp plain ((there a).near ∴ simp ints (omega arith), omega (arith, (known s).high, set_below s.args.period s.args.words.now (known s) c.in-At.i (found c).set)) }
+    record { turning = simp plain (turning s.args.period s.args.words.now (known s)); within = simp plain ((there a).near ∴ simp ints (omega arith), omega (arith, (known s).high, set_below s.args.period s.args.words.now (known s) c.in-Some.i (found c).set)) }
 
 pub returns : goal.returns
 returns c =
-    let d = (goal.at.returns c).In-At in
-    let a = (goal.at.In-At d).After-turn_of-at in
+    let d = (goal.at.returns c).In-Some in
+    let a = (goal.at.In-Some d).After-turn_of-at in
     let s = (goal.at.After-turn_of-at a).Start in
     let r = a.turn_of-at.result in
-    let n = d.in-At.i in
+    let n = d.in-Some.i in
     let p = s.ranges.period in
     let f = (there a).turn-fits in
     let i : c.composed-2.result ≡ s.args.period *ℤ r.turn +ℤ pos n = simp plain at c.composed-2.ensures in

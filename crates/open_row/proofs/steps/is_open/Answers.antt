@@ -27,8 +27,8 @@ labelled c =
     let x = s.ranges.x in
     simp plain at c.label_at-label.ensures
 
-pub returns-in-At : goal.returns-in-At
-returns-in-At c = ap is_some (sym (ap found c.in-At.is) ∙ labelled (goal.at.returns-in-At c).After-label_at-label)
+pub returns-in-Some : goal.returns-in-Some
+returns-in-Some c = ap is_some (sym (ap found c.in-Some.is) ∙ labelled (goal.at.returns-in-Some c).After-label_at-label)
 
-pub returns-in-Nothing : goal.returns-in-Nothing
-returns-in-Nothing c = ap is_some (sym (ap found c.in-Nothing.is) ∙ labelled (goal.at.returns-in-Nothing c).After-label_at-label)
+pub returns-in-None : goal.returns-in-None
+returns-in-None c = ap is_some (sym (ap found c.in-None.is) ∙ labelled (goal.at.returns-in-None c).After-label_at-label)

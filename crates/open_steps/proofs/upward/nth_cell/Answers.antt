@@ -22,18 +22,18 @@ nth_from-found-requires c =
     let l = s.args.words.now in
     (s.requires.0, omega (arith, some-cell l (length l) s.args.k s.requires.2), s.requires.1)
 
-pub returns-in-At : goal.returns-in-At
-returns-in-At c =
-    let f = (goal.at.returns-in-At c).After-nth_from-found in
+pub returns-in-Ok : goal.returns-in-Ok
+returns-in-Ok c =
+    let f = (goal.at.returns-in-Ok c).After-nth_from-found in
     let s = (goal.at.After-nth_from-found f).Start in
     let l = s.args.words.now in
-    let n = subst (NthFrom l 0 s.args.k) c.in-At.is f.nth_from-found.ensures in
+    let n = subst (NthFrom l 0 s.args.k) c.in-Ok.is f.nth_from-found.ensures in
     record { set = n.set; rank = omega (arith, n.rank, tally-zero (cell l)) }
 
-pub returns-in-Short : goal.returns-in-Short
-returns-in-Short c =
-    let f = (goal.at.returns-in-Short c).After-nth_from-found in
+pub returns-in-Err : goal.returns-in-Err
+returns-in-Err c =
+    let f = (goal.at.returns-in-Err c).After-nth_from-found in
     let s = (goal.at.After-nth_from-found f).Start in
     let l = s.args.words.now in
-    let n = subst (NthFrom l 0 s.args.k) c.in-Short.is f.nth_from-found.ensures in
+    let n = subst (NthFrom l 0 s.args.k) c.in-Err.is f.nth_from-found.ensures in
     absurd (omega (arith, n, s.requires.2, tally-zero (cell l)))

@@ -1,11 +1,11 @@
 -- `operand_checks::altered::alter` meets its contract: check 8 for the span stands before the others.
 -- Assumes nothing.
+use Rattle.std.specs.Prelude.{Some}
 use mathlib.Core.Path.{◌≡◌, sym, ◌∙◌}
 use Prim.Native.Nat.{ℕ}
 use lib.Dec.{leb}
 use Rattle.integers.specs.Parts.{up}
 use Rattle.integers.specs.Capped.{capped_at}
-use Rattle.integers.specs.declared.Capped.TheVariants.{Within}
 use Rattle.integers.proofs.Machine.{plain}
 use Rattle.calendar.specs.Meaning.{Row}
 use Rattle.calendar.specs.Size.{turn, span_of}
@@ -19,7 +19,7 @@ use Rattle.operand_checks.proofs.Spans.{capped-past, capped-passes, capped-half,
 use Rattle.granules.proofs.Replies.{passed, failed}
 use Rattle.operand_checks.proofs.Replies.{alter-is}
 use Rattle.operand_checks.proofs.altered.alter.Goals as goal
-use Rattle.operand_checks.proofs.altered.alter.Goals.{After-span_of-capped, In-Within, Start}
+use Rattle.operand_checks.proofs.altered.alter.Goals.{After-span_of-capped, In-Some, Start}
 
 abbrev row-a : Start → Row
 row-a s = given s.args.a_period s.args.a_distance s.args.a_cells.now
@@ -62,9 +62,9 @@ returns-in_default c =
     let s = (goal.at.After-span_of-capped t).Start in
     sym (checks s ∙ failed 8 _ (capped-past _ _ (sym (capped_is t) ∙ c.in_default.is)))
 
-within : (c : In-Within) → let s = (goal.at.In-Within c).Start in
-    capped_at (up s.args.room) (span s) ≡ Within c.in-Within.s
-within c = sym (capped_is (goal.at.In-Within c).After-span_of-capped) ∙ c.in-Within.is
+within : (c : In-Some) → let s = (goal.at.In-Some c).Start in
+    capped_at (up s.args.room) (span s) ≡ Some c.in-Some.s
+within c = sym (capped_is (goal.at.In-Some c).After-span_of-capped) ∙ c.in-Some.is
 
 pub overflow_cast-s : goal.overflow_cast-s
 overflow_cast-s c = capped_fits c.requires.room _ (within c)
@@ -90,8 +90,8 @@ aligned-requires c =
 
 pub returns : goal.returns
 returns c =
-    let k = (goal.at.returns c).In-Within in
-    let s = (goal.at.In-Within k).Start in
+    let k = (goal.at.returns c).In-Some in
+    let s = (goal.at.In-Some k).Start in
     let r = s.ranges.room in
     let p = s.ranges.a_period in
     let n = s.ranges.a_distance in

@@ -1,5 +1,6 @@
 -- `operand_checks::altered::sized` meets its contract: the working period is tested once no number on the way can wrap.
 -- Assumes nothing.
+use Rattle.std.specs.Prelude.{Some}
 use mathlib.Core.Path.{◌≡◌, sym, ◌∙◌, ap}
 use Prim.Native.Nat.{ℕ, ◌<◌, ◌^◌}
 use native.Mathlib.Omega.{arith}
@@ -10,7 +11,6 @@ use mir.Syntax.{w64}
 use mir.Val.{of_z, to_z}
 use Rattle.integers.specs.Parts.{up}
 use Rattle.integers.specs.Capped.{capped_at}
-use Rattle.integers.specs.declared.Capped.TheVariants.{Within}
 use Rattle.integers.proofs.Cap.{within-is}
 use Rattle.integers.proofs.Linear.{ints, ◌∴◌}
 use Rattle.integers.proofs.Machine.{plain}
@@ -26,7 +26,7 @@ use Rattle.operand_checks.proofs.Spans.{capped-past, capped-passes, capped-half,
 use Rattle.granules.proofs.Replies.{passed, failed}
 use Rattle.operand_checks.proofs.Replies.{same-extent}
 use Rattle.operand_checks.proofs.altered.sized.Goals as goal
-use Rattle.operand_checks.proofs.altered.sized.Goals.{After-alter_distance-distance, After-alter_period-working, After-altering_of-n, After-turn_of-a, After-turn_of-b, In-Within, Start}
+use Rattle.operand_checks.proofs.altered.sized.Goals.{After-alter_distance-distance, After-alter_period-working, After-altering_of-n, After-turn_of-a, After-turn_of-b, In-Some, Start}
 
 x-natural : (s : Start) → Natural s.args.by.x
 x-natural s = natural (x_fits s.requires.limits) (s.requires.limits.x-low ∴ simp ints (omega arith))
@@ -127,9 +127,9 @@ returns-in_default c =
     let t = (goal.at.returns-in_default c).After-alter_period-working in
     sym (failed 8 _ (capped-past _ _ (sym (period-is t) ∙ c.in_default.is)))
 
-within : (c : In-Within) → let s = (goal.at.In-Within c).Start in
-    capped_at (up s.args.room) (working s).period ≡ Within c.in-Within.period
-within c = sym (period-is (goal.at.In-Within c).After-alter_period-working) ∙ c.in-Within.is
+within : (c : In-Some) → let s = (goal.at.In-Some c).Start in
+    capped_at (up s.args.room) (working s).period ≡ Some c.in-Some.period
+within c = sym (period-is (goal.at.In-Some c).After-alter_period-working) ∙ c.in-Some.is
 
 pub alter_distance-distance-requires : goal.alter_distance-distance-requires
 alter_distance-distance-requires c =
@@ -146,7 +146,7 @@ distance-below : (c : After-alter_distance-distance) → c.alter_distance-distan
 distance-below c =
     let n = (goal.at.After-alter_distance-distance c).After-altering_of-n in
     let s = (goal.at.After-altering_of-n n).Start in
-    let k = (goal.at.After-alter_distance-distance c).In-Within in
+    let k = (goal.at.After-alter_distance-distance c).In-Some in
     let r = stored s.requires.limited in
     let h = capped-half s.requires.room _ (within k) in
     let e = (within-is (within k)).0 in
@@ -156,7 +156,7 @@ distance-below c =
 
 pub overflow_cast-result : goal.overflow_cast-result
 overflow_cast-result c =
-    let k = (goal.at.overflow_cast-result c).In-Within in
+    let k = (goal.at.overflow_cast-result c).In-Some in
     capped_fits k.requires.room _ (within k)
 
 pub overflow_cast-result-2 : goal.overflow_cast-result-2
@@ -164,8 +164,8 @@ overflow_cast-result-2 c = distance-below c ∴ simp ints (omega arith)
 
 pub returns : goal.returns
 returns c =
-    let k = (goal.at.returns c).In-Within in
-    let s = (goal.at.In-Within k).Start in
+    let k = (goal.at.returns c).In-Some in
+    let s = (goal.at.In-Some k).Start in
     let t = s.ranges.span in
     let h = capped-half s.requires.room _ (within k) in
     let d = distance-below c in

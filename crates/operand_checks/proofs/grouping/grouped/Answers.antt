@@ -1,5 +1,6 @@
 -- `operand_checks::grouping::grouped` meets its contract: where the working period is within the room, so is the span.
 -- Assumes nothing.
+use Rattle.std.specs.Prelude.{Some}
 use mathlib.Core.Path.{◌≡◌, sym, ◌∙◌, ap, ap₂}
 use Prim.Native.Nat.{ℕ, ◌/◌, ◌≤◌, ◌<◌, ◌^◌}
 use native.Mathlib.Nat.{div-le_self}
@@ -8,7 +9,6 @@ use lib.IntN.{pos}
 use Rattle.integers.specs.Parts.{up}
 use Rattle.integers.specs.Gcd.{gcd}
 use Rattle.integers.specs.Capped.{capped_at}
-use Rattle.integers.specs.declared.Capped.TheVariants.{Within}
 use Rattle.integers.proofs.Linear.{ints, ◌∴◌}
 use Rattle.integers.proofs.Order.{pos-up}
 use Rattle.integers.proofs.Divisors.{gcd-pos}
@@ -27,7 +27,7 @@ use Rattle.operand_checks.proofs.Spans.{capped-past, capped-half, capped_fits}
 use Rattle.operand_checks.proofs.Replies.{same-extent}
 use Rattle.operand_checks.proofs.Groups.{grouped-fails, grouped-passes}
 use Rattle.operand_checks.proofs.grouping.grouped.Goals as goal
-use Rattle.operand_checks.proofs.grouping.grouped.Goals.{After-gcd-common, After-group_period-working, After-struct_known-1, After-turn_of-a, In-Within, Start}
+use Rattle.operand_checks.proofs.grouping.grouped.Goals.{After-gcd-common, After-group_period-working, After-struct_known-1, After-turn_of-a, In-Some, Start}
 
 x-natural : (s : Start) → Natural s.args.x
 x-natural s = natural s.ranges.x (s.requires.pos_bound ∴ simp ints (omega arith))
@@ -70,12 +70,12 @@ returns-in_default c =
     let s = (goal.at.After-group_period-working t).Start in
     sym (grouped-fails (up s.args.x) (row s) (up s.args.room) (capped-past _ _ (sym (capped_is t) ∙ c.in_default.is)))
 
-within : (c : In-Within) → let s = (goal.at.In-Within c).Start in
-    capped_at (up s.args.room) (period_unary (group (up s.args.x)) (row s)) ≡ Within c.in-Within.p
-within c = sym (capped_is (goal.at.In-Within c).After-group_period-working) ∙ c.in-Within.is
+within : (c : In-Some) → let s = (goal.at.In-Some c).Start in
+    capped_at (up s.args.room) (period_unary (group (up s.args.x)) (row s)) ≡ Some c.in-Some.p
+within c = sym (capped_is (goal.at.In-Some c).After-group_period-working) ∙ c.in-Some.is
 
 pub overflow_cast-result : goal.overflow_cast-result
-overflow_cast-result c = capped_fits c.requires.room _ (within (goal.at.overflow_cast-result c).In-Within)
+overflow_cast-result c = capped_fits c.requires.room _ (within (goal.at.overflow_cast-result c).In-Some)
 
 common-is : (c : After-gcd-common) → let s = (goal.at.After-gcd-common c).Start in c.gcd-common.result ≡ gcd (up s.args.x) (up s.args.distance)
 common-is c =
@@ -104,7 +104,7 @@ overflow_cast-result-2 c = distance-fits c ∴ simp ints (omega arith)
 
 pub returns : goal.returns
 returns c =
-    let k = (goal.at.returns c).In-Within in
+    let k = (goal.at.returns c).In-Some in
     let s = (goal.at.returns c).Start in
     let p = s.ranges.period in
     let h = capped-half s.requires.room _ (within k) in

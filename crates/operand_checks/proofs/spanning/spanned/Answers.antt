@@ -1,11 +1,11 @@
 -- `operand_checks::spanning::spanned` meets its contract: its tests are those of checks 8 and 9, in their order.
 -- Assumes nothing.
+use Rattle.std.specs.Prelude.{Some}
 use mathlib.Core.Path.{◌≡◌, sym, ◌∙◌, ap}
 use mathlib.Core.Bool.{Bool}
 use native.Mathlib.Omega.{arith}
 use Rattle.integers.specs.Parts.{up}
 use Rattle.integers.specs.Capped.{capped_at}
-use Rattle.integers.specs.declared.Capped.TheVariants.{Within}
 use Rattle.integers.proofs.Linear.{ints}
 use Rattle.integers.proofs.Cap.{within-is}
 use Rattle.integers.proofs.Machine.{plain}
@@ -20,7 +20,7 @@ use Rattle.operand_checks.specs.Shared.{over_span}
 use Rattle.operand_checks.proofs.Spans.{capped-past, capped-passes, capped-half, capped_fits, capped-spanned}
 use Rattle.granules.proofs.Replies.{passed, failed}
 use Rattle.operand_checks.proofs.spanning.spanned.Goals as goal
-use Rattle.operand_checks.proofs.spanning.spanned.Goals.{After-aligned, After-span_of-capped, In-Within, Start}
+use Rattle.operand_checks.proofs.spanning.spanned.Goals.{After-aligned, After-span_of-capped, In-Some, Start}
 
 pub span_of-capped-requires : goal.span_of-capped-requires
 span_of-capped-requires s =
@@ -56,9 +56,9 @@ returns-in_default c =
     let t = (goal.at.returns-in_default c).After-span_of-capped in
     sym (failed 8 _ (capped-past _ _ (sym (capped_is t) ∙ c.in_default.is)))
 
-within : (c : In-Within) → let s = (goal.at.In-Within c).Start in
-    capped_at (up s.args.room) (span_of (turn (row-a s)) (turn (row-b s))) ≡ Within c.in-Within.s
-within c = sym (capped_is (goal.at.In-Within c).After-span_of-capped) ∙ c.in-Within.is
+within : (c : In-Some) → let s = (goal.at.In-Some c).Start in
+    capped_at (up s.args.room) (span_of (turn (row-a s)) (turn (row-b s))) ≡ Some c.in-Some.s
+within c = sym (capped_is (goal.at.In-Some c).After-span_of-capped) ∙ c.in-Some.is
 
 pub overflow_cast-span : goal.overflow_cast-span
 overflow_cast-span c = capped_fits c.requires.room _ (within c)
@@ -84,8 +84,8 @@ aligned-is c =
 
 pub over_span-requires : goal.over_span-requires
 over_span-requires c =
-    let k = (goal.at.over_span-requires c).In-Within in
-    let s = (goal.at.In-Within k).Start in
+    let k = (goal.at.over_span-requires c).In-Some in
+    let s = (goal.at.In-Some k).Start in
     let r = capped-half s.requires.room _ (within k) in
     let p = s.ranges.a_period in
     let n = s.ranges.a_distance in
@@ -94,16 +94,16 @@ over_span-requires c =
 
 pub returns-then-aligned : goal.returns-then-aligned
 returns-then-aligned c =
-    let k = (goal.at.returns-then-aligned c).In-Within in
-    let s = (goal.at.In-Within k).Start in
+    let k = (goal.at.returns-then-aligned c).In-Some in
+    let s = (goal.at.In-Some k).Start in
     let h = capped-half s.requires.room _ (within k) in
     let p = s.ranges.a_period in
     let n = s.ranges.a_distance in
-    let e : c.over_span.result ≡ over_span (turn (row-a s)) k.in-Within.s = simp plain at c.over_span.ensures in
+    let e : c.over_span.result ≡ over_span (turn (row-a s)) k.in-Some.s = simp plain at c.over_span.ensures in
     ap answer (e ∙ ap (over_span (turn (row-a s))) (within-is (within k)).0)
     ∙ sym (passed 8 _ (capped-passes _ _ (within k)) ∙ passed 9 _ (sym (aligned-is (goal.at.returns-then-aligned c).After-aligned) ∙ c.if-aligned.true))
 
 pub returns-else-aligned : goal.returns-else-aligned
 returns-else-aligned c =
-    let k = (goal.at.returns-else-aligned c).In-Within in
+    let k = (goal.at.returns-else-aligned c).In-Some in
     sym (passed 8 _ (capped-passes _ _ (within k)) ∙ failed 9 _ (sym (aligned-is (goal.at.returns-else-aligned c).After-aligned) ∙ c.if-aligned.false))

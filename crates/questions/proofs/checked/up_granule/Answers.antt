@@ -1,7 +1,9 @@
 -- `questions::checked::up_granule` meets its contract: 14, 15, then what `containment::holder` says of an instant of the granule.
+use Rattle.std.specs.Prelude as Prelude
+use Rattle.std.specs.Prelude.{Some, None, Ok}
 use borrow.Author.Tests.{not-false}
 use borrow.Author.Rules.{rules}
-use mathlib.Core.Path.{◌≡◌, sym, ◌∙◌, ap}
+use mathlib.Core.Path.{◌≡◌, refl, sym, ◌∙◌, ap}
 use mathlib.Core.Bool.{true}
 use mathlib.Core.Option.{some}
 use Prim.Native.Nat.{◌^◌}
@@ -25,8 +27,9 @@ use Rattle.granules.proofs.Replies.{passed, failed}
 use Rattle.cursors.specs.Found.{found, Within}
 use Rattle.cursors.proofs.Bounds.{in-range}
 use Rattle.cursors.proofs.Numbers.{valid}
+use Rattle.questions.specs.Answers.{up_reply}
 use Rattle.questions.proofs.checked.up_granule.Goals as goal
-use Rattle.questions.proofs.checked.up_granule.Goals.{After-holder-label, After-in_range, After-instant_of-at, Else-not-in_range, In-At, Start}
+use Rattle.questions.proofs.checked.up_granule.Goals.{After-holder-label, After-in_range, After-instant_of-at, Else-not-in_range, In-Some, Start}
 
 abbrev g-row : Start → Row
 g-row s = given s.args.g_period s.args.g_distance s.args.g_cells.now
@@ -79,30 +82,30 @@ returns-in_default c =
     sym (left (goal.at.After-instant_of-at l).Else-not-in_range ∙ failed 15 _ (ap is_some (found-is l ∙ ap found c.in_default.is)))
 
 -- ---- the answer
-instant-fits : (c : In-At) → SFits w64 c.in-At.t
+instant-fits : (c : In-Some) → SFits w64 c.in-Some.t
 instant-fits c = search rules
 
-abbrev checked : In-At → Else-not-in_range
-checked c = (goal.at.In-At c).Else-not-in_range
+abbrev checked : In-Some → Else-not-in_range
+checked c = (goal.at.In-Some c).Else-not-in_range
 
-abbrev instant : In-At → ℤ
-instant c = c.in-At.t
+abbrev instant : In-Some → ℤ
+instant c = c.in-Some.t
 
-is_found : (c : In-At) → let s = begun (checked c) in instant_of (g-row s) s.args.z ≡ some (instant c)
-is_found c = found-is (goal.at.In-At c).After-instant_of-at ∙ ap found c.in-At.is
+is_found : (c : In-Some) → let s = begun (checked c) in instant_of (g-row s) s.args.z ≡ some (instant c)
+is_found c = found-is (goal.at.In-Some c).After-instant_of-at ∙ ap found c.in-Some.is
 
-labelled : (c : In-At) → let s = begun (checked c) in meant (g-row s) (instant c) ≡ some s.args.z
+labelled : (c : In-Some) → let s = begun (checked c) in meant (g-row s) (instant c) ≡ some s.args.z
 labelled c =
     let s = begun (checked c) in
     let v = valid s.args.g_period s.args.g_distance s.args.g_cells.now s.requires.sound in
     instant_of-labelled (g-row s) v s.args.z (instant c) (is_found c)
 
-is-label : (c : In-At) → let s = begun (checked c) in has (g-row s) s.args.z ≡ true
+is-label : (c : In-Some) → let s = begun (checked c) in has (g-row s) s.args.z ≡ true
 unfolding has
 is-label c = ap is_some (is_found c)
 
-near : (c : In-At) → Within (2 ^ 59) (instant c)
-near c = c.instant_of-at.ensures.within_2 (instant c) (ap found c.in-At.is) ∴ simp ints (omega arith)
+near : (c : In-Some) → Within (2 ^ 59) (instant c)
+near c = c.instant_of-at.ensures.within_2 (instant c) (ap found c.in-Some.is) ∴ simp ints (omega arith)
 
 pub holder-label-requires : goal.holder-label-requires
 holder-label-requires c =
@@ -114,9 +117,9 @@ holder-label-requires c =
     let t = instant-fits c in
     record { sound = simp plain s.requires.sound; sound_2 = simp plain s.requires.sound_2; labelled = simp plain ((s.args.z, labelled c), near c) }
 
-replied : (c : After-holder-label) → let s = begun (checked (goal.at.After-holder-label c).In-At) in up_from_granule (g-row s) (h-row s) s.args.z ≡ answer (found c.holder-label.result)
+replied : (c : After-holder-label) → let s = begun (checked (goal.at.After-holder-label c).In-Some) in up_from_granule (g-row s) (h-row s) s.args.z ≡ answer (found c.holder-label.result)
 replied c =
-    let k = (goal.at.After-holder-label c).In-At in
+    let k = (goal.at.After-holder-label c).In-Some in
     let s = begun (checked k) in
     let p = s.ranges.g_period in
     let n = s.ranges.g_distance in
@@ -125,10 +128,10 @@ replied c =
     let t = instant-fits k in
     left (checked k) ∙ passed 15 _ (is-label k) ∙ ap answer (sym ((simp plain at c.holder-label.ensures) s.args.z (labelled k)))
 
-pub returns-in-At-label : goal.returns-in-At-label
-returns-in-At-label c =
-    let f : SFits w64 c.in-At-label.j = search rules in
-    ap answer (ap some (to_z-of_z f) ∙ sym (ap found c.in-At-label.is)) ∙ sym (replied (goal.at.returns-in-At-label c).After-holder-label)
+-- a label that is found, or none, is the reply
+label-replied : (x : Prelude.Option ℤ) → up_reply (Ok x) ≡ answer (found x)
+label-replied (Some j) = refl
+label-replied None = refl
 
-pub returns-in-Nothing : goal.returns-in-Nothing
-returns-in-Nothing c = ap answer (sym (ap found c.in-Nothing.is)) ∙ sym (replied (goal.at.returns-in-Nothing c).After-holder-label)
+pub returns : goal.returns
+returns c = label-replied c.holder-label.result ∙ sym (replied (goal.at.returns c).After-holder-label)

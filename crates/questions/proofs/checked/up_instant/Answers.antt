@@ -22,7 +22,7 @@ use Rattle.granules.proofs.Questions.{placed-some, placed-none}
 use Rattle.cursors.specs.Found.{found, Near, Within}
 use Rattle.cursors.proofs.Bounds.{in-range}
 use Rattle.questions.proofs.checked.up_instant.Goals as goal
-use Rattle.questions.proofs.checked.up_instant.Goals.{After-in_range, After-label_at-label, After-place-place, Else-not-in_range, In-At, Start}
+use Rattle.questions.proofs.checked.up_instant.Goals.{After-in_range, After-label_at-label, After-place-place, Else-not-in_range, In-Some, Start}
 
 abbrev row : Start → Row
 row s = given s.args.period s.args.distance s.args.cells.now
@@ -64,19 +64,19 @@ replied : (c : Else-not-in_range) → let s = (goal.at.Else-not-in_range c).Star
 unfolding up_from_instant
 replied c = passed 13 _ c.requires ∙ passed 14 _ (is-near c)
 
-abbrev begun : In-At → Start
-begun c = (goal.at.In-At c).Start
+abbrev begun : In-Some → Start
+begun c = (goal.at.In-Some c).Start
 
-own-fits : (c : In-At) → SFits w64 c.in-At.j
+own-fits : (c : In-Some) → SFits w64 c.in-Some.j
 own-fits c = search rules
 
 -- the instant's label
-abbrev own : In-At → ℤ
-own c = c.in-At.j
+abbrev own : In-Some → ℤ
+own c = c.in-Some.j
 
-is-own : (c : In-At) → let s = begun c in
+is-own : (c : In-Some) → let s = begun c in
     meant (row s) s.args.t ≡ some (own c)
-is-own c = meant_is (goal.at.In-At c).After-label_at-label ∙ ap found c.in-At.is
+is-own c = meant_is (goal.at.In-Some c).After-label_at-label ∙ ap found c.in-Some.is
 
 pub place-place-requires : goal.place-place-requires
 place-place-requires c =
@@ -87,24 +87,24 @@ place-place-requires c =
     let t = s.ranges.t in
     record { sound = simp plain s.requires; labelled = simp plain (((own c, is-own c), (near s.args.t (is-near d)).1)) }
 
-place_is : (c : After-place-place) → let s = begun (goal.at.After-place-place c).In-At in c.place-place.result ≡ place (row s) (own (goal.at.After-place-place c).In-At) s.args.t
+place_is : (c : After-place-place) → let s = begun (goal.at.After-place-place c).In-Some in c.place-place.result ≡ place (row s) (own (goal.at.After-place-place c).In-Some) s.args.t
 place_is c =
-    let s = begun (goal.at.After-place-place c).In-At in
+    let s = begun (goal.at.After-place-place c).In-Some in
     let p = s.ranges.period in
     let n = s.ranges.distance in
     let t = s.ranges.t in
-    (simp plain at c.place-place.ensures) (own (goal.at.After-place-place c).In-At) (is-own (goal.at.After-place-place c).In-At)
+    (simp plain at c.place-place.ensures) (own (goal.at.After-place-place c).In-Some) (is-own (goal.at.After-place-place c).In-Some)
 
-pub returns-in-At : goal.returns-in-At
-returns-in-At c =
-    let k = (goal.at.returns-in-At c).In-At in
+pub returns-in-Some : goal.returns-in-Some
+returns-in-Some c =
+    let k = (goal.at.returns-in-Some c).In-Some in
     let s = begun k in
     let at : ℤ → Placed = λ j. record { label = j; place = c.place-place.result } in
     ap (λ (j : ℤ). answer (some (at j))) (to_z-of_z (own-fits k))
-    ∙ sym (replied (goal.at.In-At k).Else-not-in_range ∙ ap answer ((placed-some (row s) s.args.t (at (own k))).1 (is-own k, place_is c)))
+    ∙ sym (replied (goal.at.In-Some k).Else-not-in_range ∙ ap answer ((placed-some (row s) s.args.t (at (own k))).1 (is-own k, place_is c)))
 
-pub returns-in-Nothing : goal.returns-in-Nothing
-returns-in-Nothing c =
-    let d = (goal.at.returns-in-Nothing c).After-label_at-label in
-    let e = meant_is d ∙ ap found c.in-Nothing.is in
+pub returns-in-None : goal.returns-in-None
+returns-in-None c =
+    let d = (goal.at.returns-in-None c).After-label_at-label in
+    let e = meant_is d ∙ ap found c.in-None.is in
     sym (replied (goal.at.After-label_at-label d).Else-not-in_range ∙ ap answer ((placed-none _ _).1 e))

@@ -29,11 +29,11 @@ use Rattle.cursors.specs.Found.{found, Within}
 use Rattle.cursors.proofs.Bounds.{in-range}
 use Rattle.cursors.proofs.Numbers.{numbers, valid}
 use Rattle.containment.specs.First.{FirstInstant}
-use Rattle.parts.specs.declared.Walked.TheVariants.{Parts}
+use Rattle.std.specs.Prelude.{Some}
 use Rattle.parts.specs.Walk.{PartsOf}
 use Rattle.questions.proofs.Checks.{Checked, down-row, down-other, down-argument, down-label, down-incomplete, down-short, down-answer, refused-parts, answered-parts}
 use Rattle.questions.proofs.down.down.Goals as goal
-use Rattle.questions.proofs.down.down.Goals.{Start, After-clear, After-sound, Else-not-sound, After-sound-2, Else-not-sound-2, After-in_range, Else-not-in_range, After-instant_of-instant, In-At, After-first_instant-first, After-parts_of-walked, In-Parts}
+use Rattle.questions.proofs.down.down.Goals.{Start, After-clear, After-sound, Else-not-sound, After-sound-2, Else-not-sound-2, After-in_range, Else-not-in_range, After-instant_of-instant, In-Some, After-first_instant-first, After-parts_of-walked, In-Some-walked}
 
 abbrev h-row : Start → Row
 h-row s = given s.args.h_period s.args.h_distance s.args.h_cells.now
@@ -140,33 +140,33 @@ returns-in_default c =
 
 -- ---- the first instant of the granule
 
-abbrev checks : In-At → Else-not-in_range
-checks c = (goal.at.In-At c).Else-not-in_range
+abbrev checks : In-Some → Else-not-in_range
+checks c = (goal.at.In-Some c).Else-not-in_range
 
-abbrev instant : In-At → ℤ
-instant c = c.in-At.t
+abbrev instant : In-Some → ℤ
+instant c = c.in-Some.t
 
-instant-fits : (c : In-At) → SFits w64 c.in-At.t
+instant-fits : (c : In-Some) → SFits w64 c.in-Some.t
 instant-fits c = search rules
 
-is_found : (c : In-At) → let s = begun (checks c) in instant_of (h-row s) s.args.z ≡ some (instant c)
-is_found c = found-is (goal.at.In-At c).After-instant_of-instant ∙ ap found c.in-At.is
+is_found : (c : In-Some) → let s = begun (checks c) in instant_of (h-row s) s.args.z ≡ some (instant c)
+is_found c = found-is (goal.at.In-Some c).After-instant_of-instant ∙ ap found c.in-Some.is
 
-is-label : (c : In-At) → let s = begun (checks c) in has (h-row s) s.args.z ≡ true
+is-label : (c : In-Some) → let s = begun (checks c) in has (h-row s) s.args.z ≡ true
 unfolding has
 is-label c = ap is_some (is_found c)
 
-checked : (c : In-At) → let s = begun (checks c) in Checked (h-row s) (g-row s) s.args.z
+checked : (c : In-Some) → let s = begun (checks c) in Checked (h-row s) (g-row s) s.args.z
 checked c = record { h-sound = h-is (checks c); g-sound = g-is (checks c); in-range = is-ranged (checks c); is-label = is-label c }
 
 rules_own : (c : Else-not-in_range) → Valid (h-row (begun c))
 rules_own c = let s = begun c in valid s.args.h_period s.args.h_distance s.args.h_cells.now (h-is c)
 
-labelled : (c : In-At) → let s = begun (checks c) in meant (h-row s) (instant c) ≡ some s.args.z
+labelled : (c : In-Some) → let s = begun (checks c) in meant (h-row s) (instant c) ≡ some s.args.z
 labelled c = let s = begun (checks c) in instant_of-labelled (h-row s) (rules_own (checks c)) s.args.z (instant c) (is_found c)
 
-near : (c : In-At) → Within (2 ^ 54) (instant c)
-near c = c.instant_of-instant.ensures.within_2 (instant c) (ap found c.in-At.is)
+near : (c : In-Some) → Within (2 ^ 54) (instant c)
+near c = c.instant_of-instant.ensures.within_2 (instant c) (ap found c.in-Some.is)
 
 pub first_instant-first-requires : goal.first_instant-first-requires
 first_instant-first-requires c =
@@ -180,7 +180,7 @@ first_instant-first-requires c =
 
 first-is : (c : After-first_instant-first) → let s = (goal.at.After-first_instant-first c).Start in c.first_instant-first.result ≡ first (granule (h-row s) s.args.z)
 first-is c =
-    let k = (goal.at.After-first_instant-first c).In-At in
+    let k = (goal.at.After-first_instant-first c).In-Some in
     let s = begun (checks k) in
     let p = s.ranges.h_period in
     let n = s.ranges.h_distance in
@@ -189,7 +189,7 @@ first-is c =
 
 begins : (c : After-first_instant-first) → let s = (goal.at.After-first_instant-first c).Start in FirstInstant (h-row s) s.args.z c.first_instant-first.result
 begins c =
-    let k = (goal.at.After-first_instant-first c).In-At in
+    let k = (goal.at.After-first_instant-first c).In-Some in
     let e = checks k in
     let s = begun e in
     let r = h-row s in
@@ -227,12 +227,12 @@ walks c =
 as_long : (c : After-parts_of-walked) → length c.parts_of-walked.new.parts ≡ room (goal.at.After-parts_of-walked c).Start
 as_long c = search rules
 
-walks_parts : (c : In-Parts) → let s = (goal.at.In-Parts c).Start in
-    PartsOf (h-row s) (g-row s) s.args.z c.parts_of-walked.new.parts (Parts c.in-Parts.count)
+walks_parts : (c : In-Some-walked) → let s = (goal.at.In-Some-walked c).Start in
+    PartsOf (h-row s) (g-row s) s.args.z c.parts_of-walked.new.parts (Some c.in-Some-walked.count)
 walks_parts c =
-    let w = (goal.at.In-Parts c).After-parts_of-walked in
-    let s = (goal.at.In-Parts c).Start in
-    subst (PartsOf (h-row s) (g-row s) s.args.z c.parts_of-walked.new.parts) c.in-Parts.is (walks w)
+    let w = (goal.at.In-Some-walked c).After-parts_of-walked in
+    let s = (goal.at.In-Some-walked c).Start in
+    subst (PartsOf (h-row s) (g-row s) s.args.z c.parts_of-walked.new.parts) c.in-Some-walked.is (walks w)
 
 -- ---- 17
 
@@ -241,22 +241,22 @@ returns-then-parts-count c =
     let k = goal.at.returns-then-parts-count c in
     let w = k.After-parts_of-walked in
     let s = k.Start in
-    let x = walks_parts k.In-Parts in
+    let x = walks_parts k.In-Some-walked in
     let short : room s < length (within (g-row s) (h-row s) s.args.z) = omega (arith, c.if-parts-count.true, x.1.0, as_long w) in
-    let r = refused-parts (room s) 17 _ _ (down-short (h-row s) (g-row s) s.args.z (room s) (checked k.In-At) x.0 short)
+    let r = refused-parts (room s) 17 _ _ (down-short (h-row s) (g-row s) s.args.z (room s) (checked k.In-Some) x.0 short)
     (c.clear-then-parts-count.ensures ∙ ap (λ (m : ℕ). replicate m (pos 0)) (as_long w)) in
     record { answer = r.0; list = r.1 }
 
 -- ---- 16
 
-pub returns-in-Incomplete : goal.returns-in-Incomplete
-returns-in-Incomplete c =
-    let k = goal.at.returns-in-Incomplete c in
+pub returns-in-None : goal.returns-in-None
+returns-in-None c =
+    let k = goal.at.returns-in-None c in
     let w = k.After-parts_of-walked in
     let s = k.Start in
-    let x = subst (PartsOf (h-row s) (g-row s) s.args.z c.parts_of-walked.new.parts) c.in-Incomplete.is (walks w) in
-    let r = refused-parts (room s) 16 _ _ (down-incomplete (h-row s) (g-row s) s.args.z (room s) (checked k.In-At) x.0)
-    (c.clear-in-Incomplete.ensures ∙ ap (λ (m : ℕ). replicate m (pos 0)) (as_long w)) in
+    let x = subst (PartsOf (h-row s) (g-row s) s.args.z c.parts_of-walked.new.parts) c.in-None.is (walks w) in
+    let r = refused-parts (room s) 16 _ _ (down-incomplete (h-row s) (g-row s) s.args.z (room s) (checked k.In-Some) x.0)
+    (c.clear-in-None.ensures ∙ ap (λ (m : ℕ). replicate m (pos 0)) (as_long w)) in
     record { answer = r.0; list = r.1 }
 
 -- ---- the answer
@@ -266,7 +266,7 @@ returns-else-parts-count c =
     let k = goal.at.returns-else-parts-count c in
     let w = k.After-parts_of-walked in
     let s = k.Start in
-    let x = walks_parts k.In-Parts in
+    let x = walks_parts k.In-Some-walked in
     let enough : length (within (g-row s) (h-row s) s.args.z) ≤ room s = omega (arith, c.if-parts-count.false, x.1.0, as_long w) in
-    let r = answered-parts (room s) _ _ _ _ (down-answer (h-row s) (g-row s) s.args.z (room s) (checked k.In-At) x.0 enough) x.1.0 enough (as_long w) x.1.1 in
+    let r = answered-parts (room s) _ _ _ _ (down-answer (h-row s) (g-row s) s.args.z (room s) (checked k.In-Some) x.0 enough) x.1.0 enough (as_long w) x.1.1 in
     record { answer = r.0; list = r.1 }

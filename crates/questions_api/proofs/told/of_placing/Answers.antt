@@ -1,4 +1,5 @@
 -- `questions_api::told::of_placing` meets its contract, arm by arm.
+use Rattle.std.specs.Prelude.{Ok}
 use borrow.Author.Rules.{rules, sfits_of}
 use mathlib.Core.Path.{◌≡◌, sym, ◌∙◌, ap, subst}
 use mathlib.Core.Option.{Option, some}
@@ -25,20 +26,20 @@ small j n e h = subst (λ (r : Reply (Option Placed)). placed_place r ≤ℤ pos
 
 pub overflow_cast-place : goal.overflow_cast-place
 overflow_cast-place c =
-    count_fits _ (small _ _ (sym (ap placed_reply c.in-At.is)) c.requires)
+    count_fits _ (small _ _ (sym (ap placed_reply (c.in-Ok-Some.is ∙ ap Ok (rw c.in-Ok-Some.is at c.in-Ok-Some.field-0-is)))) c.requires)
 
-pub returns-in-At : goal.returns-in-At
-returns-in-At c =
-    let e = sym (ap placed_reply c.in-At.is) in
-    let f : SFits w64 c.in-At.j = search rules in
+pub returns-in-Ok-Some : goal.returns-in-Ok-Some
+returns-in-Ok-Some c =
+    let e = sym (ap placed_reply (c.in-Ok-Some.is ∙ ap Ok (rw c.in-Ok-Some.is at c.in-Ok-Some.field-0-is))) in
+    let f : SFits w64 c.in-Ok-Some.j = search rules in
     record { code = ap placed_code e; label = to_z-of_z f ∙ ap placed_label e; place = count-back _ (small _ _ e c.requires) ∙ ap placed_place e }
 
-pub returns-in-Nothing : goal.returns-in-Nothing
-returns-in-Nothing c =
-    let e = sym (ap placed_reply c.in-Nothing.is) in
+pub returns-in-Ok-None : goal.returns-in-Ok-None
+returns-in-Ok-None c =
+    let e = sym (ap placed_reply (c.in-Ok-None.is ∙ ap Ok (rw c.in-Ok-None.is at c.in-Ok-None.field-0-is))) in
     record { code = ap placed_code e; label = ap placed_label e; place = ap placed_place e }
 
-pub returns-in-Refused : goal.returns-in-Refused
-returns-in-Refused c =
-    let e = sym (ap placed_reply c.in-Refused.is) in
+pub returns-in-Err : goal.returns-in-Err
+returns-in-Err c =
+    let e = sym (ap placed_reply c.in-Err.is) in
     record { code = to_z-of_z {w = w64} (sfits_of c.refusal_code.type_inv) ∙ c.refusal_code.ensures ∙ ap placed_code e; label = ap placed_label e; place = ap placed_place e }

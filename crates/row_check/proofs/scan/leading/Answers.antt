@@ -1,34 +1,29 @@
--- `row_check::scan::leading` meets its contract: the loop is the search for a cell that is not empty.
+-- `row_check::scan::leading` meets its contract: the library finds the cell that the search for a label finds.
 -- Assumes nothing.
-use mathlib.Core.Path.{sym}
-use native.Mathlib.Omega.{arith}
-use borrow.Author.Rules.{sfits_of}
-use lib.IntN.{ℤ, pos}
-use lib.ListN.{get_or}
-use Rattle.calendar.specs.Meaning.{is_empty}
-use Rattle.cursors.proofs.Cells.{bits-empty, bits_full}
-use Rattle.cursors.proofs.Search.{search-start, search-past, search-here, search-end}
+use Rattle.std.proofs.Common.{rules, tests}
+use Rattle.std.proofs.lemmas.Iterator.{YieldsList-from_slice}
+use Rattle.std.proofs.lemmas.Iterator.Search.{position_from_yields_List}
+use Rattle.std.specs.List.{position}
+use Rattle.std.specs.Option.{unwrap_or}
+use mathlib.Core.Path.{◌≡◌, ◌∙◌, ap}
+use mathlib.Core.Bool.{not}
+use lib.Dec.{eqb}
+use lib.IntN.{ℤ}
+use lib.ListN.{length}
+use mir.Syntax.{w32}
+use mir.Val.{of_z, SFits}
+use Rattle.calendar.specs.Meaning.{empty, is_empty}
+use Rattle.granules.proofs.Tests.{test-ext, eqb-iff}
+use Rattle.cursors.proofs.Cells.{bits-empty, empty-iff}
+use Rattle.row_check.proofs.Finding.{found-run}
 use Rattle.row_check.proofs.scan.leading.Goals as goal
-use Rattle.row_check.proofs.scan.leading.Goals.{After-t6-1, At-loop-i}
 
-pub loop-i-init : goal.loop-i-init
-loop-i-init c = search-start is_empty c.args.cells.now
-
--- the cell that a turn reads
-cell : After-t6-1 → ℤ
-cell c = get_or c.args.cells.now c.loop-i.i (pos 0)
-
-pub returns-then-cells-i : goal.returns-then-cells-i
-unfolding cell
-returns-then-cells-i c =
-    let a = (goal.at.returns-then-cells-i c).At-loop-i in
-    sym (search-here is_empty a.args.cells.now a.loop-i.i (pos 0) a.loop-i.invariant (omega arith) (bits_full (cell (goal.at.returns-then-cells-i c).After-t6-1) c.if-cells-i.true))
-
-pub loop-i-preserved : goal.loop-i-preserved
-unfolding cell
-loop-i-preserved c =
-    let a = (goal.at.loop-i-preserved c).At-loop-i in
-    search-past is_empty a.args.cells.now a.loop-i.i (pos 0) a.loop-i.invariant (omega arith) (bits-empty (cell (goal.at.loop-i-preserved c).After-t6-1) (sfits_of c.t6-1.given) c.if-cells-i.false)
+-- the machine's test of a cell y
+bits-test : (y : ℤ) → SFits w32 y → not (eqb (of_z w32 y) (of_z w32 empty)) ≡ not (is_empty y)
+bits-test y f = ap not (test-ext (λ p. bits-empty y f ((eqb-iff _ _).0 p)) (λ p. (eqb-iff _ _).1 (ap (of_z w32) ((empty-iff y).0 p))))
 
 pub returns : goal.returns
-returns c = let a = (goal.at.returns c).At-loop-i in sym (search-end is_empty a.args.cells.now a.loop-i.i a.loop-i.invariant (omega arith))
+returns c =
+    let l = c.args.cells.now in
+    let found : c.position.result ≡ position (λ (y : ℤ). not (is_empty y)) l = position_from_yields_List (λ (y : ℤ). not (is_empty y)) _ _ c.position.result c.position.ensures.ran (YieldsList-from_slice _ c.iter.ensures.rest) (λ x b q k. search (rules, tests, bits-test)) in
+    c.unwrap_or.ensures ∙ ap (λ o. unwrap_or o (length l)) found ∙ found-run is_empty l

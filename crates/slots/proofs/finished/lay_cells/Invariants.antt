@@ -1,6 +1,5 @@
 -- `slots::finished::lay_cells` is safe and ends: each cell ends behind its start.
 -- Assumes nothing.
-use borrow.Author.Rules.{rules}
 use Prim.Native.Nat.{◌≤◌, ◌-◌}
 use lib.ListN.{length}
 use mathlib.Core.Path.{◌≡◌}

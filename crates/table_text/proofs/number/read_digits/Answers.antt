@@ -1,45 +1,46 @@
 -- `table_text::number::read_digits` meets its contract. The loop's invariant: what is left is to be read behind the digits that make `value`.
 -- Assumes nothing.
-use mathlib.Core.Path.{◌≡◌, refl, sym, ap, ◌∙◌}
+use mathlib.Core.Path.{◌≡◌, sym, ap, ◌∙◌}
 use Prim.Native.Nat.{ℕ, ◌+◌, ◌*◌}
 use native.Mathlib.Omega.{arith}
 use lib.ListN.{drop, drop_of_length-le}
 use Rattle.table_text.specs.Answers.{digits_answer}
-use Rattle.table_text.proofs.Scanning.{digits-end, digits-large, place-low, place-high, place-digit}
+use Rattle.table_text.proofs.Scanning.{digits-end, digits-large, place-other, place-digit}
 use Rattle.table_text.proofs.number.read_digits.Goals as goal
-use Rattle.table_text.proofs.number.read_digits.Goals.{After-wide, At-loop-i}
+use Rattle.table_text.proofs.number.read_digits.Goals.{After-from, At-loop-b}
 
-pub loop-i-init : goal.loop-i-init
-loop-i-init c = (omega arith, omega arith, refl)
-
-pub returns-then-b-lt48 : goal.returns-then-b-lt48
-returns-then-b-lt48 c = let l = (goal.at.returns-then-b-lt48 c).At-loop-i in sym (l.loop-i.invariant.2 ∙ place-low l.args.word.now l.loop-i.value l.loop-i.i (omega arith) c.if-b-lt48.true)
-
-pub returns-then-b-gt57 : goal.returns-then-b-gt57
-returns-then-b-gt57 c = let l = (goal.at.returns-then-b-gt57 c).At-loop-i in sym (l.loop-i.invariant.2 ∙ place-high l.args.word.now l.loop-i.value l.loop-i.i (omega arith) c.if-b-gt57.true)
+pub returns-then-not-is_ascii_digit : goal.returns-then-not-is_ascii_digit
+returns-then-not-is_ascii_digit c =
+    let l = (goal.at.returns-then-not-is_ascii_digit c).At-loop-b in
+    sym (l.loop-b.invariant.1
+    ∙ place-other l.args.word.now l.loop-b.value l.loop-b.b-index (omega arith) (sym c.is_ascii_digit.ensures.value ∙ c.if-not-is_ascii_digit.true))
 
 -- one digit more
-digit : (c : After-wide)
-    → let l = (goal.at.After-wide c).At-loop-i in let w = l.args.word.now in
-    digits_answer l.loop-i.value (drop l.loop-i.i w) ≡ digits_answer (10 * l.loop-i.value + c.wide.result) (drop (l.loop-i.i + 1) w)
+digit : (c : After-from)
+    → let l = (goal.at.After-from c).At-loop-b in let w = l.args.word.now in
+    digits_answer l.loop-b.value (drop l.loop-b.b-index w)
+    ≡ digits_answer (10 * l.loop-b.value + c.from.result) (drop (l.loop-b.b-index + 1) w)
 digit c =
-    let l = (goal.at.After-wide c).At-loop-i in
+    let l = (goal.at.After-from c).At-loop-b in
     let w = l.args.word.now in
-    place-digit w l.loop-i.value l.loop-i.i (omega arith) (omega arith) (omega arith)
-    ∙ ap (λ (d : ℕ). digits_answer (10 * l.loop-i.value + d) (drop (l.loop-i.i + 1) w)) (sym c.wide.ensures)
+    place-digit w l.loop-b.value l.loop-b.b-index (omega arith) (sym c.is_ascii_digit.ensures.value ∙ c.if-not-is_ascii_digit.false)
+    ∙ ap (λ (d : ℕ). digits_answer (10 * l.loop-b.value + d) (drop (l.loop-b.b-index + 1) w)) (sym c.from.ensures)
 
 pub returns-then-value-gt-BOUND : goal.returns-then-value-gt-BOUND
 returns-then-value-gt-BOUND c =
-    let l = (goal.at.returns-then-value-gt-BOUND c).At-loop-i in
+    let l = (goal.at.returns-then-value-gt-BOUND c).At-loop-b in
     let w = l.args.word.now in
-    sym (l.loop-i.invariant.2 ∙ digit (goal.at.returns-then-value-gt-BOUND c).After-wide ∙ digits-large (drop (l.loop-i.i + 1) w) c.if-value-gt-BOUND.true)
+    sym (l.loop-b.invariant.1 ∙ digit (goal.at.returns-then-value-gt-BOUND c).After-from
+    ∙ digits-large (drop (l.loop-b.b-index + 1) w) c.if-value-gt-BOUND.true)
 
-pub loop-i-preserved : goal.loop-i-preserved
-loop-i-preserved c =
-    let l = (goal.at.loop-i-preserved c).At-loop-i in
-    (omega arith, omega arith, l.loop-i.invariant.2 ∙ digit (goal.at.loop-i-preserved c).After-wide)
+pub loop-b-preserved : goal.loop-b-preserved
+loop-b-preserved c =
+    let l = (goal.at.loop-b-preserved c).At-loop-b in
+    (omega arith, l.loop-b.invariant.1 ∙ digit (goal.at.loop-b-preserved c).After-from)
 
 pub returns : goal.returns
 returns c =
-    let l = (goal.at.returns c).At-loop-i in
-    sym (l.loop-i.invariant.2 ∙ ap (digits_answer l.loop-i.value) (drop_of_length-le l.args.word.now {i = l.loop-i.i} (omega arith)) ∙ digits-end l.loop-i.invariant.1)
+    let l = (goal.at.returns c).At-loop-b in
+    sym (l.loop-b.invariant.1
+    ∙ ap (digits_answer l.loop-b.value) (drop_of_length-le l.args.word.now {i = l.loop-b.b-index} (omega arith))
+    ∙ digits-end l.loop-b.invariant.0)

@@ -1,10 +1,8 @@
 -- `table_text::table::read_table` meets its contract.
 -- Assumes nothing.
-use mathlib.Core.Path.{◌≡◌, sym, ap, subst, ◌∙◌}
+use mathlib.Core.Path.{◌≡◌, subst}
 use Prim.Native.Nat.{ℕ}
-use native.Mathlib.Omega.{arith}
-use lib.IntN.{pos}
-use lib.ListN.{length, replicate}
+use lib.ListN.{length}
 use Rattle.table_text.specs.Words.{line_feed}
 use Rattle.table_text.specs.Parse.{split, read_lines}
 use Rattle.table_text.specs.Tables.{Left}
@@ -21,11 +19,6 @@ clear-length k = k.clear.auto.table
 
 pub returns-then-text-gt-TEXT_LIMIT : goal.returns-then-text-gt-TEXT_LIMIT
 returns-then-text-gt-TEXT_LIMIT c = let k = (goal.at.returns-then-text-gt-TEXT_LIMIT c).After-clear in read-long (length (start k).args.table.now) _ _ c.if-text-gt-TEXT_LIMIT.true k.clear.ensures
-
-pub read_lines-requires : goal.read_lines-requires
-read_lines-requires c =
-    let k = (goal.at.read_lines-requires c).After-clear in
-    record { text_len_bound = c.if-text-gt-TEXT_LIMIT.false; table_length_in_bounds = (omega (arith, (start k).requires, clear-length k), k.clear.ensures ∙ ap (λ (n : ℕ). replicate n (pos 0)) (sym (clear-length k))) }
 
 pub returns : goal.returns
 returns c =
