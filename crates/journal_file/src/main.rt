@@ -6,6 +6,9 @@
 
 #![tactic(auto)]
 
+ghost use Rattle.std.specs.Prelude.{◌≡◌};
+ghost use Rattle.journal_file.specs.Window.{window_length};
+
 use std::io;
 use std::rt::Runtime;
 
@@ -16,14 +19,20 @@ fn tell_usage(rt: &impl Eprint) {
     let _ = rt.eprint("journal_file append FILE <TEXT, or journal_file last FILE\n");
 }
 
+// Prints the sheet of the last table, which is found by windows of N bytes.
+fn last<const N: usize>(rt: &impl Runtime, path: &str) -> io::Result<()>
+    requires { N ≡ window_length }
+{
+    journal_store::last_by::<N>(rt, path)?;
+    Ok(())
+}
+
 fn run(rt: &impl Runtime, command: &[u8], path: &str) -> io::Result<()> {
     match command {
         b"append" => {
             journal_store::append(rt, path)?;
         }
-        b"last" => {
-            journal_store::last_by::<WINDOW>(rt, path)?;
-        }
+        b"last" => last::<WINDOW>(rt, path)?,
         _ => tell_usage(rt),
     }
     Ok(())

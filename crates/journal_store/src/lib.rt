@@ -2,12 +2,13 @@
 
 #![tactic(auto)]
 
-ghost use Rattle.std.specs.Prelude.{◌≤◌, ◌<◌, ◌^◌, IfOk, IfSome};
+ghost use Rattle.std.specs.Prelude.{◌≡◌, ◌≤◌, ◌<◌, ◌^◌, IfOk, IfSome};
 ghost use Rattle.table_text.specs.Text.{text_limit};
+ghost use Rattle.journal_store.specs.Seen.{window_length};
 
 use input::{fill_at, size_of};
 use journal::{RECORD_LIMIT, RecordError};
-use printing::{print, print_refusal};
+use printing::print;
 use std::fs::{File, Files};
 use std::io;
 use std::io::{Read, Seek};
@@ -35,7 +36,7 @@ fn append_text(
             Ok(None)
         }
         Err(RecordError::Refused(line)) => {
-            print_refusal(rt, 19, line)?;
+            print!(rt; "refused 19 at {line}\n")?;
             Ok(Some(19))
         }
         Err(RecordError::TooShort) => Ok(None),
@@ -119,7 +120,17 @@ pub fn last_by<const N: usize>(
     }
 }
 
+// The same by windows of the length that is asked of N.
+fn last_near<const N: usize>(
+    rt: &(impl Files + Print + Eprint + Alloc),
+    path: &str,
+) -> io::Result<Option<u32>>
+    requires { N ≡ window_length }
+{
+    last_by::<N>(rt, path)
+}
+
 // The same by windows of a trailer and the last byte of its body, so that nothing before the body is read.
 pub fn last(rt: &(impl Files + Print + Eprint + Alloc), path: &str) -> io::Result<Option<u32>> {
-    last_by::<WINDOW>(rt, path)
+    last_near::<WINDOW>(rt, path)
 }

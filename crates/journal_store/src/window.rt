@@ -1,12 +1,19 @@
 // The last table of a file, found by windows from its end.
 
-ghost use Rattle.std.specs.Prelude.{◌+◌, ◌≤◌, ◌<◌, ◌^◌, IfOk};
+ghost use Rattle.std.specs.Prelude.{◌≡◌, ◌+◌, ◌-◌, ◌≤◌, ◌<◌, ◌^◌, IfOk};
 ghost use Rattle.journal_store.specs.Seen.{Seen, Within};
 
 use crate::input::fill_at;
 use journal::Step;
 use std::io;
 use std::io::{Read, Seek};
+
+// Where the window of N bytes starts that ends at `end`.
+fn window_start<const N: usize>(end: usize) -> usize
+    ensures { result ≡ end - N }
+{
+    end.saturating_sub(N)
+}
 
 // Looks through the n bytes from `base` on.
 fn look<const N: usize>(file: &mut (impl Read + Seek), base: usize, n: usize) -> io::Result<Step>
@@ -29,7 +36,7 @@ pub(crate) fn search<const N: usize>(
 {
     let mut end = size;
     loop {
-        let base = end.saturating_sub(N);
+        let base = window_start::<N>(end);
         match look::<N>(&mut *file, base, end - base)? {
             Step::Body(start, n) => return Ok(Some((start, n))),
             Step::Before(next) => {
