@@ -48,7 +48,9 @@ fn ask_in(
     }
 }
 
-// A finished sheet is checked without a conversion.
+// A finished sheet is checked without a conversion. Not inlined, so that commands that convert nothing spare the pool's
+// stack.
+#[inline(never)]
 fn ask_table(rt: &impl Runtime, command: Command, table: &[i32]) -> io::Result<()> {
     if command == Command::Check {
         return finished::run(rt, table);

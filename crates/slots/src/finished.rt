@@ -141,7 +141,8 @@ fn labels_of(pool: &[i32], from: usize, end: usize) -> Seen {
         first: 0,
         last: 0,
     };
-    for &cell in pool.iter().take(end).skip(from) {
+    let until = end.min(pool.len());
+    for &cell in &pool[from.min(until)..until] {
         seen = seen_behind(seen, cell);
     }
     seen
