@@ -48,7 +48,7 @@ pub fn digits(s: &[u8], from: usize) -> Scanned {
     }
     Scanned {
         value,
-        end: s.len(),
+        end: s.len().max(from),
     }
 }
 

@@ -2,6 +2,7 @@
 
 use crate::arguments::{entry_at, number_at};
 use crate::refusals;
+use crate::row::Row;
 use printing::print;
 use std::io;
 use std::rt::Env;
@@ -9,22 +10,21 @@ use std::rt::Env;
 // How many parts a slot may have here.
 const PARTS: usize = 65536;
 
-// How many parts a slot has, as asked; `parts` is left with them.
-fn asked(
+// The entry, the slot and the entry of its parts, as asked.
+fn asked<'a>(
     rt: &(impl Env + Eprint),
     headings: &[u32],
-    pool: &[i32],
-    parts: &mut [i64],
-) -> Option<usize> {
+    pool: &'a [i32],
+) -> Option<(Row<'a>, i64, Row<'a>)> {
     let row = entry_at(rt, 2, headings, pool)?;
     let label = number_at(rt, 3)?;
     let of = entry_at(rt, 4, headings, pool)?;
-    refusals::answered(rt, row.down(label, parts, of))
+    Some((row, label, of))
 }
 
-pub fn run(rt: &(impl Env + Print + Eprint), headings: &[u32], pool: &[i32]) -> io::Result<()> {
+fn print_down(rt: &(impl Print + Eprint), row: Row, label: i64, of: Row) -> io::Result<()> {
     let mut parts = [0i64; PARTS];
-    let Some(n) = asked(rt, headings, pool, &mut parts) else {
+    let Some(n) = refusals::answered(rt, row.down(label, &mut parts, of)) else {
         return Ok(());
     };
     print(rt, b"slots")?;
@@ -32,4 +32,11 @@ pub fn run(rt: &(impl Env + Print + Eprint), headings: &[u32], pool: &[i32]) -> 
         print!(rt; " {part}")?;
     }
     print(rt, b"\n")
+}
+
+pub fn run(rt: &(impl Env + Print + Eprint), headings: &[u32], pool: &[i32]) -> io::Result<()> {
+    match asked(rt, headings, pool) {
+        Some((row, label, of)) => print_down(rt, row, label, of),
+        None => Ok(()),
+    }
 }

@@ -123,7 +123,7 @@ fn print_month(rt: &(impl Print + Eprint), m: Month, row: Row) -> io::Result<()>
     print(rt, b"\n\n")?;
     let first = year::instant_of(m.year, m.month, 1);
     let last = year::instant_of(m.year, m.month, m.last);
-    print_share(rt, year::open_days(first, last, row), u64::from(m.last))?;
+    print_share(rt, year::open_in(first, last, row), u64::from(m.last))?;
     print(rt, b"\n")
 }
 

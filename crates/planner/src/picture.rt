@@ -105,11 +105,7 @@ fn print_year(rt: &impl Print, year: i64, row: Row) -> io::Result<()> {
     print!(rt; "{year}: ")?;
     let first = year::instant_of(year, 1, 1);
     let last = year::instant_of(year, 12, 31);
-    print_share(
-        rt,
-        year::open_days(first, last, row),
-        year::year_length(year),
-    )?;
+    print_share(rt, year::open_in(first, last, row), year::year_length(year))?;
     print(rt, b"</text>\n")?;
     for line in 1..13 {
         print_line(rt, year, line, row)?;
@@ -121,7 +117,7 @@ fn print_period(rt: &impl Print, row: Row) -> io::Result<()> {
     let n = row.period.min(DRAWN);
     print_head(rt, n / LINE + 1)?;
     print_title(rt, row)?;
-    let open = year::open_days(1, i64::from(row.period), row);
+    let open = year::open_in(1, i64::from(row.period), row);
     print_share(rt, open, u64::from(row.period))?;
     print(rt, b"</text>\n")?;
     for i in 0..n {

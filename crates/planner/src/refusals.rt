@@ -88,14 +88,18 @@ pub fn advise(rt: &impl Eprint, number: u32) {
     }
 }
 
+// Tells a refusal, and what to do.
+pub fn tell(rt: &impl Eprint, number: u32) {
+    let _ = eprint!(rt; "refused {number}: ");
+    advise(rt, number);
+}
+
 // What a question is answered. A refusal is told, with what to do.
 pub(crate) fn answered<T: Drop>(rt: &impl Eprint, answer: Result<T, Refusal>) -> Option<T> {
     match answer {
         Ok(value) => Some(value),
         Err(refusal) => {
-            let number = refusal.number();
-            let _ = eprint!(rt; "refused {number}: ");
-            advise(rt, number);
+            tell(rt, refusal.number());
             None
         }
     }

@@ -30,7 +30,7 @@ fn cells_of<'a>(pool: &'a [i32], start: u32, period: u32) -> &'a [i32] {
     pool.get(from..from + period as usize).unwrap_or(&pool[..0])
 }
 
-// The row of the entry k, if the table has one.
+// The row of the entry k, if the table has one. Start, period and distance are read of its heading.
 pub fn row_at<'a>(k: i64, headings: &[u32], pool: &'a [i32]) -> Option<Row<'a>>
     ensures { IfSome result (λ r. (r.entry ≡ k) × (1 ≤ r.period)) }
 {
@@ -38,7 +38,7 @@ pub fn row_at<'a>(k: i64, headings: &[u32], pool: &'a [i32]) -> Option<Row<'a>>
     if ENTRIES <= at {
         return None;
     }
-    let heading = headings.get(HEADING * at..HEADING * at + HEADING)?;
+    let heading = headings.get(HEADING * at..HEADING * at + 3)?;
     let period = heading[1];
     if period == 0 {
         return None;

@@ -84,12 +84,28 @@ pub fn day_at(m: Month, i: u32) -> u32 {
     }
 }
 
+// The instant before.
+fn before(t: i64) -> i64 {
+    if -2000000000 < t { t - 1 } else { t }
+}
+
 // How many instants from `first` to `last` are open.
-pub fn open_days(first: i64, last: i64, row: Row) -> u64 {
-    match row.between(first.saturating_sub(1), last) {
+pub fn open_days(first: i64, last: i64, cells: &[i32], period: i64, distance: i64) -> u64 {
+    match open_row::between(before(first), last, cells, period, distance) {
         Ok(n) => u64::try_from(n).unwrap_or(0),
         Err(_) => 0,
     }
+}
+
+// The same of a row.
+pub(crate) fn open_in(first: i64, last: i64, row: Row) -> u64 {
+    open_days(
+        first,
+        last,
+        row.cells,
+        i64::from(row.period),
+        i64::from(row.distance),
+    )
 }
 
 // The name of a month.
