@@ -196,7 +196,7 @@ pub fn civil_table() -> [i32; 66]
 //     next_open(words, period, x)                     the next open instant above x
 //     last_open(words, period, x)                     the last open instant below x
 //     nth_open(words, period, x, n)                   the n-th open instant after x, or before x for an n below 0; for 0
-//                                                     it is x, or Nothing where x is not open; n is within ±1,000,000
+//                                                     it is x, or None where x is not open; n is within ±1,000,000
 //     between_open(words, period, x, y)               how many open instants t there are with x < t <= y, and minus that
 //                                                     for the pair the other way round
 // Making one passes over the row twice. A question passes over the words, not the cells: three times at the most.
