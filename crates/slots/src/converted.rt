@@ -48,8 +48,8 @@ fn ask_in(
     }
 }
 
-// A finished sheet is checked without a conversion. Not inlined, so that commands that convert nothing spare the pool's
-// stack.
+// A finished sheet is checked without a conversion. Not inlined, so that the commands that are not asked here spare the
+// pool's stack.
 #[inline(never)]
 fn ask_table(rt: &impl Runtime, command: Command, table: &[i32]) -> io::Result<()> {
     if command == Command::Check {
